@@ -1,14 +1,14 @@
 -- Sizes of fractions, the lesser and the greater of two, and a fraction held to 0..l. Assumes nothing.
 use mathlib.Core.Bool.{Bool, true, false, not, cond}
-use mathlib.Core.Logic.{_⊎_, inl, inr}
+use mathlib.Core.Logic.{inl, inr}
 use mathlib.Core.Path.{_≡_, refl, subst}
 use mathlib.Core.List.{[], _∷_}
 use lib.Dec.{T}
-use lib.IntN.{ℤ, pos, _+ℤ_, _*ℤ_, zero-*ℤ}
-use lib.Signed.{_≤ℤ_, _<ℤ_, ltZ-yes, ltZ-no}
-use Rattle.exact.specs.Fraction.{Fraction, denZ, whole, zeroF, _+F_, _-F_, _*F_, negF, _≤F_, _<F_, _≈F_, AbsF, belowF, minF, maxF, heldF}
+use lib.IntN.{ℤ, pos, _*ℤ_, zero-*ℤ}
+use lib.Signed.{_≤ℤ_, ltZ-yes, ltZ-no}
+use Rattle.exact.specs.Fraction.{Fraction, zeroF, _+F_, _-F_, _*F_, negF, _≤F_, _≈F_, AbsF, belowF, minF, maxF, heldF}
 use Rattle.exact.proofs.IntegerOrder.{<ℤ-le, le-or-lt, mul-nonneg, mul-anti}
-use Rattle.exact.proofs.Ring.{lit, _⊕_, _⊖_, _⊗_, ⊝_}
+use Rattle.exact.proofs.Ring.{lit, _⊕_, _⊗_, ⊝_}
 use Rattle.exact.proofs.FractionRing.{ringF}
 use Rattle.exact.proofs.Fraction.{≤F-refl, ≤F-trans, <F-le, le-or-ltF, ≈F-le, ≈F-ge, ≤F-antisym, add-monoF, neg-monoF, mul-monoF, sub-is-add, product-low, product-high, nonneg-num, num-nonneg}
 

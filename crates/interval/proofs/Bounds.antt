@@ -7,7 +7,7 @@ use native.Mathlib.Nat.{le-max-left, le-max-right, max-zero}
 use lib.Dec.{T, lit≤}
 use mathlib.Core.List.{[]}
 use lib.IntN.{pos}
-use lib.Ieee.{Float, binary64, neg, lt, ofBits}
+use lib.Ieee.{Float, neg, lt, ofBits}
 use lib.Ieee.Scale.{finite}
 use Rattle.exact.specs.Fraction.{Fraction, zeroF, oneF, negF, _≤F_, _<F_, _≈F_, AbsF, minF, maxF, heldF}
 use Rattle.exact.proofs.Fraction.{≤F-refl, ≤F-trans, <F-le, ≈F-le, ≈F-ge, neg-monoF, neg-negF}

@@ -16,7 +16,8 @@ use Rattle.exact.proofs.FractionSize.{abs-add, abs-sub, abs-mul, abs-wider}
 use Rattle.interval.specs.Interval.{least4, greatest4, outward, around}
 use Rattle.interval.specs.Encloses.{value, Small}
 use Rattle.interval.proofs.Rounding.{Rounds}
-use Rattle.interval.proofs.Small.{power, small-abs, small-finite, rounds-small, up-small, down-small}
+use Rattle.interval.proofs.Small.{power, small-abs, small-finite}
+use Rattle.interval.proofs.SmallRounding.{rounds-small, up-small, down-small}
 use Rattle.interval.proofs.Operations.{add-rounds, sub-rounds, mul-rounds}
 use Rattle.interval.proofs.StepLaws.{up-encloses, down-encloses}
 use Rattle.interval.proofs.Compare.{least4-one, greatest4-one, least4-below, greatest4-above}

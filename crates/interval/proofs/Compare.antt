@@ -1,6 +1,6 @@
 -- What the tests of finite doubles say of the fractions that they are; the lesser and the greater of two doubles. Assumes nothing.
 use mathlib.Core.Bool.{Bool, true, false, not, cond, _&&_, _||_, Bool·beq}
-use Prim.Native.Nat.{ℕ, _+_, _*_, _≤_, _<_}
+use Prim.Native.Nat.{ℕ, _+_, _*_}
 use native.Mathlib.Omega.{arith}
 use mathlib.Core.Path.{_≡_}
 use lib.Dec.{T, eqb, ltb→lt, nltb→le, eqb→eq}

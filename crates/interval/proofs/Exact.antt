@@ -6,13 +6,13 @@ use mathlib.Core.List.{[], _∷_}
 use Prim.Native.Nat.{ℕ, zero, suc, _+_, _-_, _*_, _^_, _≤_, _<_}
 use native.Mathlib.Nat.{lt-of-lt-of-le, lt-of-le-of-lt, mul-assoc, mul-pos, mul-right-comm, two-pow-succ}
 use native.Mathlib.Omega.{arith}
-use lib.Dec.{T, leb, ltb, leb→le, ltb→lt, lit≤, lit<}
+use lib.Dec.{T, leb, leb→le, lit<}
 use lib.Pow.{pow-pos, pow-mono, pow-add, shl-lt}
-use lib.IntN.{ℤ, pos, negsuc, negℤ, natAbs, _+ℤ_, _*ℤ_}
-use lib.Ieee.{Float, nan, inf, fin, binary64, round, add, mul, ofBits, up, down}
+use lib.IntN.{ℤ, pos, negsuc, natAbs, _+ℤ_, _*ℤ_}
+use lib.Ieee.{Float, nan, inf, fin, binary64, mul, ofBits, up, down}
 use lib.Ieee.Exact.{HasValue, round-exact}
 use lib.Ieee.Scale.{finite}
-use Rattle.exact.specs.Fraction.{Fraction, ratio, whole, _+F_, _*F_, _≈F_, AbsF}
+use Rattle.exact.specs.Fraction.{Fraction, ratio, _+F_, _*F_, _≈F_}
 use Rattle.exact.proofs.Size.{within-add, within-self}
 use Rattle.exact.proofs.Ring.{lit, _⊕_, _⊗_, ring}
 use Rattle.exact.proofs.Fraction.{≤F-trans, ≈F-le, ≈F-ge, ≈F-refl, ≈F-trans, add-ratio, mul-ratio, add-congF, mul-congF}
@@ -45,7 +45,7 @@ abs-times (negsuc n) d = abs-signed true (suc n * d)
 abbrev pub binary : ℤ → ℕ → Fraction
 binary z j = ratio z (2 ^ j) (pow-pos j)
 
-pub exact-rounds : (j : ℕ) (z : ℤ) {x : Float} {q : Fraction} → T (leb j 1074) → natAbs z < 2 ^ 53 → q ≈F binary z j → Rounds x q → T (finite x) × (value x ≈F q)
+exact-rounds : (j : ℕ) (z : ℤ) {x : Float} {q : Fraction} → T (leb j 1074) → natAbs z < 2 ^ 53 → q ≈F binary z j → Rounds x q → T (finite x) × (value x ≈F q)
 exact-rounds j z {x} {q} t h e r =
     let k = r .top in
     let c = r .bottom in

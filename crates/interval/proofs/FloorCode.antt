@@ -1,7 +1,7 @@
 -- How code finds the floor: it cuts toward zero, and goes one lower where the cut number is above x. Assumes nothing.
 use mathlib.Core.Path.{_≡_, refl, sym, ap, _∙_, subst}
 use mathlib.Core.Logic.{_⊎_, inl, inr}
-use Prim.Native.Nat.{ℕ, zero, suc, _+_, _-_, _*_, _/_, _%_, _^_, _≤_, _<_, min}
+use Prim.Native.Nat.{ℕ, zero, suc, _+_, _-_, _*_, _/_, _^_, _≤_, _<_, min}
 use native.Mathlib.Nat.{le-trans, le-of-eq, lt-of-lt-of-le, mul-pos, mul-one, one-mul, zero-mul, mul-comm, mul-right-comm, mul-le-mul-right, mul-lt-mul-of-pos-right, div-mul-le-self, div-eq-of-lt-le, lt-div-mul-add, suc-mul, div-le-of-le-mul, eq-zero-or-pos, add-mul, le-antisymm}
 use native.Mathlib.Omega.{arith}
 use mathlib.Core.Bool.{Bool, true, false, not, cond, _||_, true≢false, false≢true}

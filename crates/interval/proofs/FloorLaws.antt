@@ -1,8 +1,8 @@
 -- "The floor": `floor x` is at most x, and the whole number after it is above x. Assumes nothing.
-use mathlib.Core.Path.{_≡_, sym, subst}
+use mathlib.Core.Path.{sym, subst}
 use mathlib.Core.Bool.{true, false}
 use Prim.Native.Nat.{ℕ, zero, suc, _+_, _-_, _*_, _/_, _≤_, _<_}
-use native.Mathlib.Nat.{div-mul-le-self, lt-div-mul-add, suc-mul}
+use native.Mathlib.Nat.{div-mul-le-self, lt-div-mul-add}
 use native.Mathlib.Omega.{arith}
 use lib.Dec.{T}
 use lib.IntN.{ℤ, pos, negℤ, _+ℤ_}
@@ -11,7 +11,7 @@ use lib.Ieee.Fits.{down-pos}
 use lib.Ieee.Scale.{finite}
 use Rattle.exact.specs.Fraction.{whole, _≤F_, _<F_}
 use Rattle.interval.specs.Floor.{floor}
-use Rattle.interval.specs.Encloses.{signed, value}
+use Rattle.interval.specs.Encloses.{value}
 use Rattle.interval.proofs.Signs.{signed-add, le-ratio, lt-ratio}
 
 pub floor-below : (x : Float) → T (finite x) → whole (floor x) ≤F value x

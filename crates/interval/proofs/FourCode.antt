@@ -1,11 +1,11 @@
 -- The tests of the least and the greatest of four candidates, as code makes them. Assumes nothing.
 use mathlib.Core.Path.{_≡_, refl, sym, ap, _∙_, subst}
-use mathlib.Core.Bool.{Bool, true, false, not, cond}
+use mathlib.Core.Bool.{Bool, true, false, cond}
 use Prim.Native.Nat.{ℕ, zero, suc, _+_, _*_, _<_}
 use native.Mathlib.Nat.{zero-lt-suc}
 use native.Mathlib.Omega.{arith}
 use lib.Dec.{T, ltb→lt, lt→ltb}
-use lib.Ieee.{Float, nan, inf, fin, binary64, neg, lt, le, ofBits, up, down}
+use lib.Ieee.{Float, nan, inf, fin, neg, lt, le, ofBits, up, down}
 use lib.Ieee.Bits.{is-true}
 use Rattle.interval.specs.declared.Interval.{Interval}
 use Rattle.interval.specs.Step.{b64}

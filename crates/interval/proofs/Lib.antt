@@ -1,23 +1,31 @@
--- The laws of the interval layer; what is not `pub` serves their proofs alone. Assumes nothing.
-mod Pattern
-mod Signs
-mod Rounding
-mod NextBits
-mod Rank
-mod Small
-mod StepLaws
-mod Operations
-mod Compare
+-- The laws of the interval layer. The layers above cite what is `pub` here; the rest serves its proofs. Assumes nothing.
+-- what an interval holds, and what each operation's result holds
 pub mod Membership
-mod Candidates
 pub mod Encloses
 pub mod Quotient
 pub mod Bounds
+-- doubles as fractions: their sizes, their tests, where no rounding takes place, the floor
+pub mod Small
+pub mod Compare
 pub mod Exact
+pub mod FloorLaws
+-- the doubles in order, one rounding, one step
+pub mod Rank
+pub mod InOrder
+mod Signs
+mod Pattern
+mod Rounding
+mod NextBits
+mod SmallRounding
+mod StepLaws
+mod Operations
+mod Candidates
+-- what the proofs of the code cite
 mod SignTests
 mod StepCode
 mod FourCode
 mod NearestCode
 mod FloorCode
-pub mod FloorLaws
 mod QuarterCode
+-- worked by computation
+mod Examples

@@ -4,7 +4,7 @@ use mathlib.Core.Path.{refl}
 use mathlib.Core.Bool.{true, false}
 use Prim.Native.Nat.{ℕ, _≤_}
 use lib.Dec.{T, leb, leb→le}
-use lib.Ieee.{Float, nan, inf, fin, binary64, lt, ofBits}
+use lib.Ieee.{Float, nan, inf, fin, lt, le, ofBits}
 use lib.Ieee.Scale.{finite}
 use Rattle.exact.specs.Fraction.{Fraction, zeroF, _≤F_, _<F_, _≈F_}
 use Rattle.exact.proofs.Fraction.{≤F-refl, ≤F-trans, <F-≤F-trans, ≤F-<F-trans, ≈F-le, ≈F-ge}
@@ -13,7 +13,7 @@ use Rattle.interval.specs.Step.{b64}
 use Rattle.interval.specs.Interval.{point}
 use Rattle.interval.specs.Encloses.{value, AtMost, AtLeast, _∈_, Small}
 use Rattle.interval.proofs.Small.{small-finite, small-more}
-use Rattle.interval.proofs.Compare.{lt-value}
+use Rattle.interval.proofs.Compare.{lt-value, le-value}
 
 -- ---- membership at finite ends is the order of fractions
 at-most : {q : Fraction} (x : Float) → T (finite x) → AtMost q x → q ≤F value x
@@ -109,3 +109,11 @@ below-zero {q} {i} t h = go (i .hi) t (h .below)
     go (inf true) t h = absurd h
     go (inf false) t h = absurd t
     go (fin s m e) t h = ≤F-<F-trans h (<F-≤F-trans (lt-value (fin s m e) (b64 0) tt zero-finite t) (≈F-le zero-value))
+
+-- ---- an end tested against a double
+-- "hi ≤ x": every fraction that the interval holds is at most x, and so above
+pub at-most-test : {k : ℕ} {q : Fraction} {i : Interval} → In k q i → (x : Float) → T (finite x) → T (le (i .hi) x) → q ≤F value x
+at-most-test {k} {i = i} h x f t = ≤F-trans (high h) (le-value (i .hi) x (small-finite k (i .hi) (h .small-hi)) f t)
+
+pub at-least-test : {k : ℕ} {q : Fraction} {i : Interval} → In k q i → (x : Float) → T (finite x) → T (le x (i .lo)) → value x ≤F q
+at-least-test {k} {i = i} h x f t = ≤F-trans (le-value x (i .lo) f (small-finite k (i .lo) (h .small-lo)) t) (low h)

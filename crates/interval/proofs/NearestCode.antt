@@ -1,6 +1,6 @@
 -- One IEEE division of two whole numbers up to 2 ^ 53 is one rounding of their fraction. Assumes nothing.
 use mathlib.Core.Path.{_≡_, refl, sym, ap, _∙_, subst}
-use Prim.Native.Nat.{ℕ, zero, suc, _*_, _^_, _≤_, _<_}
+use Prim.Native.Nat.{ℕ, suc, _*_, _^_, _≤_, _<_}
 use native.Mathlib.Nat.{lt-irrefl, mul-pos, mul-one, mul-comm, mul-assoc, mul-left-comm, zero-mul}
 use mathlib.Core.Bool.{Bool, true, false, not, cond, true≢false}
 use lib.Dec.{T, eqb, not-T, eqb→eq}

@@ -1,6 +1,6 @@
 -- Each IEEE operation on finite doubles is its exact fraction, rounded once: sums, differences, products, quotients by a double above zero,
 -- and the nearest double of a fraction. Assumes nothing.
-use mathlib.Core.Path.{_≡_, refl, sym, ap, ap₂, _∙_, subst}
+use mathlib.Core.Path.{_≡_, refl, sym, ap, ap₂, subst}
 use mathlib.Core.Bool.{Bool, true, false, not, cond, _&&_}
 use Prim.Native.Nat.{ℕ, zero, suc, _+_, _-_, _*_, _<_, _≤_}
 use native.Mathlib.Nat.{mul-pos, mul-comm, zero-lt-suc}
@@ -11,7 +11,7 @@ use lib.Ieee.{Float, nan, inf, fin, binary64, round, sum, add, sub, mul, div, ne
 use lib.Ieee.Fits.{up-pos, down-pos}
 use lib.Ieee.Bits.{cond-no}
 use lib.Ieee.Scale.{finite}
-use Rattle.exact.specs.Fraction.{Fraction, ratio, zeroF, _+F_, _-F_, _*F_, negF, _<F_, _≈F_}
+use Rattle.exact.specs.Fraction.{Fraction, ratio, zeroF, _+F_, _-F_, _*F_, _<F_, _≈F_}
 use Rattle.exact.proofs.Fraction.{≈F-refl, ≈F-sym, ≈F-trans, add-ratio, mul-ratio, sub-is-add, add-congF}
 use Rattle.interval.specs.Nearest.{nearest}
 use Rattle.interval.specs.Encloses.{signed, value}

@@ -1,9 +1,9 @@
 -- The bit patterns of binary64: what number each stands for, in quanta of the least double above zero, 2 ^ -1074. A larger pattern stands
 -- for a larger number. Assumes nothing.
 use mathlib.Core.Path.{_≡_, refl, sym, ap, _∙_, subst}
-use mathlib.Core.Logic.{_⊎_, inl, inr}
+use mathlib.Core.Logic.{inl, inr}
 use Prim.Native.Nat.{ℕ, zero, suc, _+_, _-_, _*_, _/_, _%_, _^_, _≤_, _<_}
-use native.Mathlib.Nat.{le-refl, le-of-lt, le-of-suc-le-suc, lt-of-not-le, lt-of-lt-of-le, lt-trans, not-le-of-lt, mul-assoc, mul-lt-mul-of-pos-right, pow-succ', eq-or-lt-of-le, eq-of-mul-eq-mul-right, lt-irrefl}
+use native.Mathlib.Nat.{le-refl, le-of-lt, lt-of-lt-of-le, lt-trans, not-le-of-lt, mul-assoc, mul-lt-mul-of-pos-right, pow-succ', eq-or-lt-of-le, eq-of-mul-eq-mul-right, lt-irrefl}
 use native.Mathlib.Omega.{arith}
 use mathlib.Core.Bool.{Bool, true, false, not, cond}
 use lib.Dec.{T, leb, ltb, eqb, leb→le, nleb→lt, eqb→eq, not-T, le→leb, ltb→lt, nltb→le, lit<}

@@ -1,28 +1,29 @@
 -- The law of the quotient, for a divisor at least 2 ^ -k, and that a fraction's own interval keeps away from zero. Assumes nothing.
-use mathlib.Core.Path.{_≡_, refl, sym, ap, _∙_, subst, subst₂}
-use mathlib.Core.Bool.{true, false}
-use Prim.Native.Nat.{ℕ, zero, suc, _+_, _*_, _^_, _≤_, _<_, zero-le}
+use mathlib.Core.Path.{refl, sym, subst, subst₂}
+use mathlib.Core.Bool.{false}
+use Prim.Native.Nat.{ℕ, suc, _+_, _*_, _^_, _≤_, _<_, zero-le}
 use native.Mathlib.Nat.{le-trans, le-of-eq, lt-of-lt-of-le, mul-one, mul-le-mul-left, two-pow-succ}
 use native.Mathlib.Omega.{arith}
 use lib.Dec.{T, leb, ltb, leb→le, le→leb, lt→ltb, lit<}
 use lib.Pow.{pow-pos, pow-mono}
-use lib.IntN.{ℤ, pos, negsuc, natAbs, _*ℤ_, *ℤ-comm}
+use lib.IntN.{ℤ, pos, negsuc, natAbs, *ℤ-comm}
 use lib.Signed.{_≤ℤ_, leZ-yes}
 use lib.Ieee.{Float, fin, binary64, div, neg, fits}
 use lib.Ieee.Fits.{div-fits, neg-fits, and-i}
 use lib.Ieee.Scale.{finite}
-use Rattle.exact.specs.Fraction.{Fraction, ratio, zeroF, _*F_, negF, _≤F_, _<F_, _≈F_, AbsF}
-use Rattle.exact.proofs.Fraction.{≤F-refl, ≤F-trans, ≤F-<F-trans, <F-≤F-trans, ≈F-le, ≈F-ge, ≈F-refl, neg-monoF, neg-lt, neg-negF, mul-congF, num-above, num-nonneg, product-low, product-high}
+use Rattle.exact.specs.Fraction.{Fraction, ratio, zeroF, _*F_, _≤F_, _<F_, _≈F_, AbsF}
+use Rattle.exact.proofs.Fraction.{≤F-trans, ≤F-<F-trans, <F-≤F-trans, ≈F-le, ≈F-ge, neg-monoF, neg-lt, neg-negF, num-nonneg, product-low, product-high}
 use Rattle.exact.proofs.FractionSize.{abs-of-nonneg, abs-mul, abs-wider}
 use Rattle.interval.specs.declared.Interval.{Interval}
-use Rattle.interval.specs.Step.{nextUp, nextDown}
+use Rattle.interval.specs.Step.{nextUp}
 use Rattle.interval.specs.Interval.{quotient}
 use Rattle.interval.specs.Nearest.{nearest, fromRational}
 use Rattle.interval.specs.Encloses.{value, Small}
-use Rattle.interval.proofs.Signs.{le-ratio, lt-ratio}
-use Rattle.interval.proofs.Rounding.{Rounds, rounds-mono, rounds-fits, kept-value}
+use Rattle.interval.proofs.Signs.{lt-ratio}
+use Rattle.interval.proofs.Rounding.{rounds-mono, rounds-fits, kept-value}
 use Rattle.interval.proofs.Rank.{next-above}
-use Rattle.interval.proofs.Small.{power, abs-ratio, small-abs, small-finite, finite-neg, value-neg, rounds-finite, down-is}
+use Rattle.interval.proofs.Small.{power, abs-ratio, small-abs, small-finite, finite-neg, value-neg}
+use Rattle.interval.proofs.SmallRounding.{rounds-finite, down-is}
 use Rattle.interval.proofs.Operations.{nearest-rounds, Divisor, divisor}
 use Rattle.interval.proofs.Membership.{In, low, high}
 use Rattle.interval.proofs.Candidates.{Candidate, candidate, power-product, around-low, around-high, around-encloses}

@@ -1,21 +1,21 @@
 -- The doubles in order. Each finite double has a rank, its place counted from zero, upward above zero and downward below; both zeros have
 -- the rank 0. Values grow with the rank, and `nextUp` goes to the next rank: so it is "the next double above". Assumes nothing.
 use mathlib.Core.Path.{_≡_, refl, sym, ap, _∙_, subst}
-use mathlib.Core.Logic.{_⊎_, inl, inr}
+use mathlib.Core.Logic.{inl, inr}
 use mathlib.Core.Bool.{Bool, true, false, not}
 use Prim.Native.Nat.{ℕ, zero, suc, _+_, _-_, _<_}
 use native.Mathlib.Nat.{le-of-lt, zero-lt-suc}
 use native.Mathlib.Numerals.{add-one}
 use native.Mathlib.Omega.{arith}
-use lib.Dec.{T, eqb, ltb, ltb→lt, lt→ltb, lit<, lit≤}
+use lib.Dec.{T, eqb, ltb, ltb→lt, lt→ltb, lit<}
 use lib.Pow.{pow-pos}
 use lib.IntN.{ℤ, pos, negsuc, negℤ, sucℤ}
 use lib.Signed.{_≤ℤ_, _<ℤ_, ltZ-yes, ≤ℤ-refl}
-use lib.Ieee.{Float, nan, inf, fin, binary64, neg, fits, isNan, toBits, ofBits}
+use lib.Ieee.{Float, binary64, fits, isNan, toBits, ofBits}
 use lib.Ieee.Bits.{ofBits-fits}
-use lib.Ieee.Fits.{cond-fits, neg-fits}
+use lib.Ieee.Fits.{cond-fits}
 use lib.Ieee.Scale.{finite}
-use Rattle.exact.specs.Fraction.{Fraction, ratio, _≤F_, _<F_, _≈F_}
+use Rattle.exact.specs.Fraction.{ratio, _≤F_, _<F_, _≈F_}
 use Rattle.exact.proofs.IntegerOrder.{zarith, ≤ℤ-antisym, ≤ℤ-<ℤ-trans, <ℤ-le, le-or-lt, negation-parts}
 use Rattle.exact.proofs.Fraction.{≤F-trans, ≤F-<F-trans, <F-≤F-trans, ≈F-le, ≈F-ge, same-den-le, same-den-lt, lt-same-den}
 use Rattle.interval.specs.Step.{b64, nextUp}

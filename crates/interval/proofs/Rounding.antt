@@ -3,13 +3,13 @@
 use mathlib.Core.Path.{_≡_, refl, sym, ap, _∙_, subst}
 use mathlib.Core.Logic.{_⊎_, inl, inr}
 use mathlib.Core.Bool.{Bool, true, false, not, cond, _&&_, _||_, true≢false}
-use Prim.Native.Nat.{ℕ, zero, suc, _+_, _*_, _/_, _%_, _^_, _≤_, _<_}
-use native.Mathlib.Nat.{le-of-eq, le-of-lt, le-trans, lt-irrefl, lt-of-lt-of-le, mul-comm, mul-pos, mul-le-mul-right, le-of-mul-le-mul-right, zero-lt-suc}
+use Prim.Native.Nat.{ℕ, zero, suc, _*_, _/_, _%_, _^_, _≤_, _<_}
+use native.Mathlib.Nat.{le-of-eq, le-of-lt, lt-irrefl, lt-of-lt-of-le, mul-pos, mul-le-mul-right, le-of-mul-le-mul-right, zero-lt-suc}
 use native.Mathlib.Omega.{arith}
-use lib.Dec.{T, ltb, eqb, ltb→lt, eqb→eq, lit<, lit≤}
+use lib.Dec.{T, ltb, eqb, ltb→lt, eqb→eq, lit<}
 use lib.Pow.{pow-pos}
-use lib.IntN.{ℤ, pos, _*ℤ_}
-use lib.Ieee.{Float, nan, inf, fin, binary64, round, units, odd, size, neg, up, down, le, fits, isNan}
+use lib.IntN.{pos, _*ℤ_}
+use lib.Ieee.{Float, nan, inf, fin, binary64, round, units, odd, size, neg, up, down, le, fits}
 use lib.Ieee.Fits.{round-is, round-fits, down-pos, and-l}
 use lib.Ieee.Exact.{HasValue, odd-sign, round-exact}
 use lib.Ieee.Order.{transfer, round-mono, kept, drop}
@@ -18,7 +18,7 @@ use Rattle.exact.specs.Fraction.{Fraction, ratio, _≤F_, _≈F_}
 use Rattle.exact.proofs.Fraction.{≤F-trans, ≈F-le, ≈F-ge, ≈F-sym, ≈F-trans}
 use Rattle.interval.specs.Encloses.{signed, value}
 use Rattle.interval.proofs.Signs.{Le, signed-times, le-ratio, ratio-le}
-use Rattle.interval.proofs.Pattern.{quantum, over, Quanta, quanta-of-value, quanta-unique, val, val-lt, val-exact, digits, shift, finite-pattern, has-pattern}
+use Rattle.interval.proofs.Pattern.{quantum, over, Quanta, quanta-of-value, quanta-unique, val, val-lt, val-exact, digits, shift, finite-pattern}
 
 -- ---- the size of a rounded fraction, in quanta
 abbrev pub rounded : ℕ → ℕ → ℕ

@@ -1,9 +1,9 @@
 -- A sign and a size as a whole number: its products, its sums and its order, and the order of fractions made so. Assumes nothing.
 use mathlib.Core.Path.{_≡_, refl, sym, ap, _∙_, subst}
-use mathlib.Core.Bool.{Bool, true, false, cond}
-use Prim.Native.Nat.{ℕ, zero, suc, _+_, _-_, _*_, _≤_, _<_}
+use mathlib.Core.Bool.{Bool, true, false, not, cond}
+use Prim.Native.Nat.{ℕ, zero, suc, _+_, _*_, _≤_, _<_}
 use native.Mathlib.Omega.{arith}
-use lib.IntN.{ℤ, pos, negsuc, negℤ, _+ℤ_, _*ℤ_, negℤ-negℤ}
+use lib.IntN.{ℤ, pos, negℤ, _+ℤ_, _*ℤ_, negℤ-negℤ}
 use lib.Signed.{_≤ℤ_, _<ℤ_}
 use lib.Ieee.{unlike}
 use Rattle.exact.specs.Fraction.{ratio, _≤F_, _<F_}
@@ -20,6 +20,10 @@ pub negPart-signed : (s : Bool) (n : ℕ) → negPart (signed s n) ≡ cond s n 
 negPart-signed true zero = refl
 negPart-signed true (suc n) = refl
 negPart-signed false n = refl
+
+pub signed-not : (s : Bool) (n : ℕ) → signed (not s) n ≡ negℤ (signed s n)
+signed-not true n = sym (negℤ-negℤ (pos n))
+signed-not false n = refl
 
 -- ---- products
 pub signed-times : (s : Bool) (a d : ℕ) → signed s a *ℤ pos d ≡ signed s (a * d)

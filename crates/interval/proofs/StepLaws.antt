@@ -1,20 +1,20 @@
 -- The outward step: a fraction that rounds to at most h is at most the next double above h, and so below. Of all the laws these two alone
 -- know how far a step goes. Assumes nothing.
 use mathlib.Core.Path.{sym, subst}
-use mathlib.Core.Logic.{_⊎_, inl, inr}
-use mathlib.Core.Bool.{true, false}
+use mathlib.Core.Logic.{inl, inr}
 use Prim.Native.Nat.{ℕ, _≤_}
 use lib.Dec.{T}
 use lib.Ieee.{Float, binary64, neg, fits}
 use lib.Ieee.Fits.{neg-fits}
 use lib.Ieee.Scale.{finite}
-use Rattle.exact.specs.Fraction.{Fraction, negF, _≤F_, _<F_}
-use Rattle.exact.proofs.Fraction.{≤F-trans, <F-≤F-trans, <F-irrefl, <F-le, le-or-ltF, ≈F-le, ≈F-ge, neg-monoF, neg-negF}
+use Rattle.exact.specs.Fraction.{Fraction, _≤F_}
+use Rattle.exact.proofs.Fraction.{≤F-trans, <F-irrefl, <F-le, le-or-ltF, ≈F-le, ≈F-ge, neg-monoF, neg-negF}
 use Rattle.interval.specs.Step.{nextUp, nextDown}
 use Rattle.interval.specs.Encloses.{value, Small}
 use Rattle.interval.proofs.Rounding.{Rounds, rounds-mono, kept-value}
 use Rattle.interval.proofs.Rank.{up-fits}
-use Rattle.interval.proofs.Small.{next-small, small-neg, finite-neg, value-neg, rounds-neg, down-is}
+use Rattle.interval.proofs.Small.{small-neg, finite-neg, value-neg}
+use Rattle.interval.proofs.SmallRounding.{next-small, rounds-neg, down-is}
 
 -- were q above the next double, that double, which rounds to itself, would be at most what q rounds to, and so at most h
 pub up-encloses : (k : ℕ) (h : Float) {x : Float} {q : Fraction} → k ≤ 1022 → Rounds x q → T (finite x) → T (fits binary64 h) → Small k h → value x ≤F value h → q ≤F value (nextUp h)

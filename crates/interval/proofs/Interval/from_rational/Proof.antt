@@ -1,13 +1,11 @@
 -- By the definition, from the calls; the numerator is read back from its bits. Assumes nothing.
-use mathlib.Core.Path.{_≡_, sym, ap, _∙_, subst}
+use mathlib.Core.Path.{sym, ap, _∙_, subst}
 use Prim.Native.Nat.{_≤_, _^_}
 use borrow.Author.Needs.{needs}
 use lib.IntN.{ℤ, natAbs}
 use lib.Ieee.{Float}
 use mir.Syntax.{w64}
-use mir.Val.{toZ, ofZ}
 use mir.ValLaws.{toZ-ofZ}
-use Rattle.interval.specs.declared.Interval.{Interval}
 use Rattle.interval.specs.Interval.{outward}
 use Rattle.interval.specs.Nearest.{nearest, fromRational}
 use Rattle.interval.proofs.Interval.from_rational.Statement.{statement}

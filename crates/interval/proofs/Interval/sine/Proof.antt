@@ -3,7 +3,6 @@ use mathlib.Core.Path.{refl}
 use lib.Ieee.{ofBits, toBits, isNan, round, neg}
 use Rattle.interval.specs.Step.{nextUp, nextDown}
 use Rattle.interval.specs.Nearest.{fromRational}
-use borrow.Author.Needs.{needs}
 use Rattle.interval.proofs.Interval.sine.Statement.{statement}
 use Rattle.interval.proofs.Interval.sine.Tie as tie
 

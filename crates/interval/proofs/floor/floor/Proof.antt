@@ -1,10 +1,8 @@
 -- The cut number fits and is read back; `floor-is` says which branch is right. Assumes nothing.
 use borrow.Author.Needs.{needs, sfits-of}
-use mathlib.Core.Path.{_≡_, refl, sym, ap, _∙_, subst}
+use mathlib.Core.Path.{_≡_, sym, ap, _∙_, subst}
 use mathlib.Core.Bool.{Bool, true, false, cond}
-use Prim.Native.Nat.{_<_, _^_}
 use lib.IntN.{ℤ, pos, _-ℤ_}
-use lib.Signed.{mag}
 use lib.Ieee.{Float, binary64, ofInt, toSigned, lt}
 use lib.Ieee.Casts.{toSigned-in}
 use Rattle.interval.specs.Encloses.{Small}

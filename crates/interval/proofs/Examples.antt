@@ -1,0 +1,117 @@
+-- Worked examples, by computation: the definitions at the ends of the format, and against numbers that were worked out independently of them.
+-- Assumes nothing.
+use mathlib.Core.Path.{_≡_, refl}
+use mathlib.Core.Bool.{true, false}
+use lib.IntN.{pos, negsuc}
+use lib.Ieee.{nan, inf, ofBits, toBits, mul, add, div, round, lt, neg, isNan}
+use Rattle.exact.specs.Fraction.{ratio}
+use lib.Dec.{lit<}
+use Rattle.interval.specs.declared.Interval.{Interval}
+use Rattle.interval.specs.Step.{b64, nextUp, nextDown}
+use Rattle.interval.specs.Interval.{point, twoPi, sum, product, quotient, square}
+use Rattle.interval.specs.Nearest.{fromRational}
+use Rattle.interval.specs.Floor.{floor, modFour}
+use Rattle.interval.specs.Encloses.{_∈_}
+
+-- ---- the steps at the ends of the format
+after-one : nextUp (b64 0x3ff0_0000_0000_0000) ≡ b64 0x3ff0_0000_0000_0001
+unfolding nextUp nextDown sum product quotient square fromRational ofBits toBits isNan neg add mul div lt round
+after-one = refl
+
+before-one : nextDown (b64 0x3ff0_0000_0000_0000) ≡ b64 0x3fef_ffff_ffff_ffff
+unfolding nextUp nextDown sum product quotient square fromRational ofBits toBits isNan neg add mul div lt round
+before-one = refl
+
+after-zero : nextUp (b64 0) ≡ b64 1
+unfolding nextUp nextDown sum product quotient square fromRational ofBits toBits isNan neg add mul div lt round
+after-zero = refl
+
+after-minus-zero : nextUp (b64 0x8000_0000_0000_0000) ≡ b64 1
+unfolding nextUp nextDown sum product quotient square fromRational ofBits toBits isNan neg add mul div lt round
+after-minus-zero = refl
+
+before-zero : nextDown (b64 0) ≡ b64 0x8000_0000_0000_0001
+unfolding nextUp nextDown sum product quotient square fromRational ofBits toBits isNan neg add mul div lt round
+before-zero = refl
+
+to-minus-zero : nextUp (b64 0x8000_0000_0000_0001) ≡ b64 0x8000_0000_0000_0000
+unfolding nextUp nextDown sum product quotient square fromRational ofBits toBits isNan neg add mul div lt round
+to-minus-zero = refl
+
+into-the-normal : nextUp (b64 0x000f_ffff_ffff_ffff) ≡ b64 0x0010_0000_0000_0000
+unfolding nextUp nextDown sum product quotient square fromRational ofBits toBits isNan neg add mul div lt round
+into-the-normal = refl
+
+after-the-largest : nextUp (b64 0x7fef_ffff_ffff_ffff) ≡ inf false
+unfolding nextUp nextDown sum product quotient square fromRational ofBits toBits isNan neg add mul div lt round
+after-the-largest = refl
+
+infinity-stays : nextUp (inf false) ≡ inf false
+unfolding nextUp nextDown sum product quotient square fromRational ofBits toBits isNan neg add mul div lt round
+infinity-stays = refl
+
+before-infinity : nextDown (inf false) ≡ b64 0x7fef_ffff_ffff_ffff
+unfolding nextUp nextDown sum product quotient square fromRational ofBits toBits isNan neg add mul div lt round
+before-infinity = refl
+
+after-minus-infinity : nextUp (inf true) ≡ b64 0xffef_ffff_ffff_ffff
+unfolding nextUp nextDown sum product quotient square fromRational ofBits toBits isNan neg add mul div lt round
+after-minus-infinity = refl
+
+nan-stays : nextUp nan ≡ nan
+unfolding nextUp nextDown sum product quotient square fromRational ofBits toBits isNan neg add mul div lt round
+nan-stays = refl
+
+-- ---- 2π = 6.283185307179586476925.. is between the ends of `two_pi`
+two-pi : ratio (pos 6283185307179586476925) 1000000000000000000000 (lit< tt) ∈ twoPi
+unfolding nextUp nextDown sum product quotient square fromRational ofBits toBits isNan neg add mul div lt round
+two-pi = record { above = record { le = record { le = tt } }; below = record { le = record { le = tt } } }
+
+-- ---- an exact sum is stepped too: 1 + 2
+one-and-two : sum (point (b64 0x3ff0_0000_0000_0000)) (point (b64 0x4000_0000_0000_0000)) ≡ record { lo = b64 0x4007_ffff_ffff_ffff; hi = b64 0x4008_0000_0000_0001 }
+unfolding nextUp nextDown sum product quotient square fromRational ofBits toBits isNan neg add mul div lt round
+one-and-two = refl
+
+-- a fraction that is a double is stepped too: 1 / 2
+one-half : fromRational (pos 1) 2 ≡ record { lo = b64 0x3fdf_ffff_ffff_ffff; hi = b64 0x3fe0_0000_0000_0001 }
+unfolding nextUp nextDown sum product quotient square fromRational ofBits toBits isNan neg add mul div lt round
+one-half = refl
+
+-- ---- of the period 10240: turns, wave, its square, the Lipschitz bound, the curvature
+abbrev turns : Interval
+turns = record { lo = b64 0x3fb9_9999_9999_9999; hi = b64 0x3fb9_9999_9999_999b }
+
+abbrev wave : Interval
+wave = record { lo = b64 0x3fe4_1b2f_769c_f0df; hi = b64 0x3fe4_1b2f_769c_f0e3 }
+
+abbrev wave-squared : Interval
+wave-squared = record { lo = b64 0x3fd9_4424_d945_7823; hi = b64 0x3fd9_4424_d945_782f }
+
+turns-is : fromRational (pos 1024) 10240 ≡ turns
+unfolding nextUp nextDown sum product quotient square fromRational ofBits toBits isNan neg add mul div lt round
+turns-is = refl
+
+wave-is : product twoPi turns ≡ wave
+unfolding nextUp nextDown sum product quotient square fromRational ofBits toBits isNan neg add mul div lt round
+wave-is = refl
+
+wave-squared-is : square wave ≡ wave-squared
+unfolding nextUp nextDown sum product quotient square fromRational ofBits toBits isNan neg add mul div lt round
+wave-squared-is = refl
+
+lipschitz-is : fromRational (pos 22528) 10240 ≡ record { lo = b64 0x4001_9999_9999_9999; hi = b64 0x4001_9999_9999_999b }
+unfolding nextUp nextDown sum product quotient square fromRational ofBits toBits isNan neg add mul div lt round
+lipschitz-is = refl
+
+curvature-is : product wave-squared (point (b64 0x400c_0000_0000_0000)) ≡ record { lo = b64 0x3ff6_1ba0_3e1c_c91e; hi = b64 0x3ff6_1ba0_3e1c_c92a }
+unfolding nextUp nextDown sum product quotient square fromRational ofBits toBits isNan neg add mul div lt round
+curvature-is = refl
+
+-- ---- floors and remainders below zero
+floor-below-zero : floor (b64 0xbff8_0000_0000_0000) ≡ negsuc 1
+unfolding nextUp nextDown sum product quotient square fromRational ofBits toBits isNan neg add mul div lt round
+floor-below-zero = refl
+
+remainder-below-zero : modFour (negsuc 0) ≡ 3
+unfolding nextUp nextDown sum product quotient square fromRational ofBits toBits isNan neg add mul div lt round
+remainder-below-zero = refl
