@@ -26,7 +26,7 @@ use Rattle.interval.proofs.Rounding.{Rounds}
 use Rattle.interval.proofs.Small.{abs-ratio, abs-small}
 use Rattle.interval.proofs.Operations.{nearest-rounds, add-rounds, mul-rounds}
 
-has-value : (x : Float) (s : Bool) (n d : ℕ) (D : 0 < d) → HasValue x s n d → T (finite x) × (value x ≈F ratio (signed s n) d D)
+pub has-value : (x : Float) (s : Bool) (n d : ℕ) (D : 0 < d) → HasValue x s n d → T (finite x) × (value x ≈F ratio (signed s n) d D)
 has-value nan s n d D h = absurd h
 has-value (inf t) s n d D h = absurd h
 has-value (fin t m e) s n d D h = (tt, record { eq = ap (λ (u : Bool). signed u (m * up e) *ℤ pos d) (h .0) ∙ signed-times s (m * up e) d ∙ ap (signed s) (h .1) ∙ sym (signed-times s n (down e)) })

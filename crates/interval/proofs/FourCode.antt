@@ -64,15 +64,15 @@ least-above x y = go (lt y x) (λ k h. above-trans y x h k)
     go true f h = f tt h
     go false f h = h
 
-most-above : (x y : Float) → T (lt (b64 0) x) → T (lt (b64 0) (greatest x y))
-most-above x y h = go (lt x y) (above-trans x y h)
+greatest-above : (x y : Float) → T (lt (b64 0) x) → T (lt (b64 0) (greatest x y))
+greatest-above x y h = go (lt x y) (above-trans x y h)
   where
     go : (u : Bool) → (T u → T (lt (b64 0) y)) → T (lt (b64 0) (cond u y x))
     go true f = f tt
     go false f = h
 
-most-below : (x y : Float) → T (lt (greatest x y) (b64 0)) → T (lt x (b64 0))
-most-below x y = go (lt x y) (below-trans x y)
+greatest-below : (x y : Float) → T (lt (greatest x y) (b64 0)) → T (lt x (b64 0))
+greatest-below x y = go (lt x y) (below-trans x y)
   where
     go : (u : Bool) → (T u → T (lt y (b64 0)) → T (lt x (b64 0))) → T (lt (cond u y x) (b64 0)) → T (lt x (b64 0))
     go true f h = f tt h
@@ -86,24 +86,24 @@ least-below x y h = go (lt y x) (λ k. below-trans y x k h)
     go false f = h
 
 pub four-above : (a b c d : Float) → T (lt (b64 0) (least4 a b c d)) → T (lt (b64 0) (greatest4 a b c d))
-four-above a b c d h = most-above (greatest a b) (greatest c d) (most-above a b (least-above a b (least-above (least a b) (least c d) h)))
+four-above a b c d h = greatest-above (greatest a b) (greatest c d) (greatest-above a b (least-above a b (least-above (least a b) (least c d) h)))
 
 pub four-below : (a b c d : Float) → T (lt (greatest4 a b c d) (b64 0)) → T (lt (least4 a b c d) (b64 0))
-four-below a b c d h = least-below (least a b) (least c d) (least-below a b (most-below a b (most-below (greatest a b) (greatest c d) h)))
+four-below a b c d h = least-below (least a b) (least c d) (least-below a b (greatest-below a b (greatest-below (greatest a b) (greatest c d) h)))
 
 -- ---- for the code of the least and the greatest of four
 pub around-is : (a b c d lo hi : Float) (r : Interval) → lo ≡ least4 a b c d → hi ≡ greatest4 a b c d → r ≡ outward lo hi → r ≡ around a b c d
 around-is a b c d lo hi r p q e = e ∙ ap (λ (v : Float). outward v hi) p ∙ ap (λ (v : Float). outward (least4 a b c d) v) q
 
-pub among-above : (a b c d lo hi : Float) → lo ≡ least4 a b c d → hi ≡ greatest4 a b c d → lt (b64 0) lo ≡ true → lt (b64 0) hi ≡ true
-among-above a b c d lo hi p q h = is-true (lt (b64 0) hi) (subst (λ (v : Float). T (lt (b64 0) v)) (sym q) (four-above a b c d (subst (λ (v : Float). T (lt (b64 0) v)) p (yes (lt (b64 0) lo) h))))
+pub around-above : (a b c d lo hi : Float) → lo ≡ least4 a b c d → hi ≡ greatest4 a b c d → lt (b64 0) lo ≡ true → lt (b64 0) hi ≡ true
+around-above a b c d lo hi p q h = is-true (lt (b64 0) hi) (subst (λ (v : Float). T (lt (b64 0) v)) (sym q) (four-above a b c d (subst (λ (v : Float). T (lt (b64 0) v)) p (yes (lt (b64 0) lo) h))))
 
-pub among-below : (a b c d lo hi : Float) → lo ≡ least4 a b c d → hi ≡ greatest4 a b c d → lt hi (b64 0) ≡ true → lt lo (b64 0) ≡ true
-among-below a b c d lo hi p q h = is-true (lt lo (b64 0)) (subst (λ (v : Float). T (lt v (b64 0))) (sym p) (four-below a b c d (subst (λ (v : Float). T (lt v (b64 0))) q (yes (lt hi (b64 0)) h))))
+pub around-below : (a b c d lo hi : Float) → lo ≡ least4 a b c d → hi ≡ greatest4 a b c d → lt hi (b64 0) ≡ true → lt lo (b64 0) ≡ true
+around-below a b c d lo hi p q h = is-true (lt lo (b64 0)) (subst (λ (v : Float). T (lt v (b64 0))) (sym p) (four-below a b c d (subst (λ (v : Float). T (lt v (b64 0))) q (yes (lt hi (b64 0)) h))))
 
-pub least-is : neg largest ≡ lowest
+pub lowest-is : neg largest ≡ lowest
 unfolding neg ofBits
-least-is = refl
+lowest-is = refl
 
-pub from-least : (x : Float) → le (neg largest) x ≡ true → le lowest x ≡ true
-from-least x h = ap (λ (v : Float). le v x) (sym least-is) ∙ h
+pub from-lowest : (x : Float) → le (neg largest) x ≡ true → le lowest x ≡ true
+from-lowest x h = ap (λ (v : Float). le v x) (sym lowest-is) ∙ h

@@ -24,10 +24,9 @@ pub fn quarter_number(t: f64) -> i64
     floor(t * 4.0 + 0.5)
 }
 
-// q mod 4, from 0 to 3, also below zero.
+// q mod 4, from 0 to 3, also below zero: `%` keeps the sign of q, so 4 is added first.
 pub fn modulo_four(q: i64) -> u64
     ensures { λ r. ⌜ r ≡ modFour q ⌝ }
 {
-    let r = q % 4;
-    if r < 0 { (r + 4) as u64 } else { r as u64 }
+    ((q % 4 + 4) % 4) as u64
 }

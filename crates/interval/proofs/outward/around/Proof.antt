@@ -1,5 +1,5 @@
 -- Each branch has tested what its callee asks, of the least or the greatest of the four. Assumes nothing.
-use Rattle.interval.proofs.FourCode.{around-is, among-above, among-below, from-least}
+use Rattle.interval.proofs.FourCode.{around-is, around-above, around-below, from-lowest}
 use borrow.Author.Needs.{needs}
 use Rattle.interval.proofs.outward.around.Statement.{statement}
 use Rattle.interval.proofs.outward.around.Tie as tie
@@ -11,7 +11,7 @@ greatest-of-requires : tie.Need-greatest-of-requires
 greatest-of-requires c κs = search needs
 
 above-requires : tie.Need-above-requires
-above-requires c κs = (c .before .before .if1 .taken, among-above (c .before .before .before .before .args .a) (c .before .before .before .before .args .b) (c .before .before .before .before .args .c) (c .before .before .before .before .args .d) _ _ (c .before .before .before .least-of .ensures) (c .before .greatest-of .ensures) (c .before .before .if1 .taken), c .if2 .taken)
+above-requires c κs = (c .before .before .if1 .taken, around-above (c .before .before .before .before .args .a) (c .before .before .before .before .args .b) (c .before .before .before .before .args .c) (c .before .before .before .before .args .d) _ _ (c .before .before .before .least-of .ensures) (c .before .greatest-of .ensures) (c .before .before .if1 .taken), c .if2 .taken)
 
 returns : tie.Need-returns
 returns c = around-is (c .before .before .before .before .before .args .a) (c .before .before .before .before .before .args .b) (c .before .before .before .before .before .args .c) (c .before .before .before .before .before .args .d) _ _ _ (c .before .before .before .before .least-of .ensures) (c .before .before .greatest-of .ensures) (c .above .ensures)
@@ -26,13 +26,13 @@ greatest-of-requires-2 : tie.Need-greatest-of-requires-2
 greatest-of-requires-2 c κs = search needs
 
 below-requires : tie.Need-below-requires
-below-requires c κs = (among-below (c .before .before .before .before .before .args .a) (c .before .before .before .before .before .args .b) (c .before .before .before .before .before .args .c) (c .before .before .before .before .before .args .d) _ _ (c .before .before .before .before .least-of .ensures) (c .before .before .greatest-of2 .ensures) (c .if4 .taken), c .if4 .taken, from-least _ (c .before .if3 .taken))
+below-requires c κs = (around-below (c .before .before .before .before .before .args .a) (c .before .before .before .before .before .args .b) (c .before .before .before .before .before .args .c) (c .before .before .before .before .before .args .d) _ _ (c .before .before .before .before .least-of .ensures) (c .before .before .greatest-of2 .ensures) (c .if4 .taken), c .if4 .taken, from-lowest _ (c .before .if3 .taken))
 
 returns-3 : tie.Need-returns-3
 returns-3 c = around-is (c .before .before .before .before .before .before .args .a) (c .before .before .before .before .before .before .args .b) (c .before .before .before .before .before .before .args .c) (c .before .before .before .before .before .before .args .d) _ _ _ (c .before .before .before .before .before .least-of .ensures) (c .before .before .before .greatest-of2 .ensures) (c .below .ensures)
 
 across-requires : tie.Need-across-requires
-across-requires c κs = (c .before .before .before .before .if1 .left, from-least _ (c .before .before .if3 .taken), c .before .if4 .left, c .if5 .taken)
+across-requires c κs = (c .before .before .before .before .if1 .left, from-lowest _ (c .before .before .if3 .taken), c .before .if4 .left, c .if5 .taken)
 
 returns-4 : tie.Need-returns-4
 returns-4 c = around-is (c .before .before .before .before .before .before .before .args .a) (c .before .before .before .before .before .before .before .args .b) (c .before .before .before .before .before .before .before .args .c) (c .before .before .before .before .before .before .before .args .d) _ _ _ (c .before .before .before .before .before .before .least-of .ensures) (c .before .before .before .before .greatest-of2 .ensures) (c .across .ensures)

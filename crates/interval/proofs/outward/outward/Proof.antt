@@ -1,5 +1,5 @@
 -- Each branch has tested what its callee asks; -MAX is the lowest double. Assumes nothing.
-use Rattle.interval.proofs.FourCode.{from-least}
+use Rattle.interval.proofs.FourCode.{from-lowest}
 use borrow.Author.Needs.{needs}
 use Rattle.interval.proofs.outward.outward.Statement.{statement}
 use Rattle.interval.proofs.outward.outward.Tie as tie
@@ -17,7 +17,7 @@ returns-2 : tie.Need-returns-2
 returns-2 c = search needs
 
 below-requires : tie.Need-below-requires
-below-requires c κs = (c .if6 .taken, c .before .if5 .taken, from-least _ (c .before .before .if4 .taken))
+below-requires c κs = (c .if6 .taken, c .before .if5 .taken, from-lowest _ (c .before .before .if4 .taken))
 
 returns-3 : tie.Need-returns-3
 returns-3 c = search needs
@@ -29,7 +29,7 @@ returns-4 : tie.Need-returns-4
 returns-4 c = search needs
 
 across-requires : tie.Need-across-requires
-across-requires c κs = (c .before .before .before .if1 .left, from-least _ (c .before .before .if4 .taken), c .before .if5 .left, c .if7 .taken)
+across-requires c κs = (c .before .before .before .if1 .left, from-lowest _ (c .before .before .if4 .taken), c .before .if5 .left, c .if7 .taken)
 
 returns-5 : tie.Need-returns-5
 returns-5 c = search needs
