@@ -105,3 +105,7 @@ magnitude-bounds {k} {q} {X} h =
       low = ≤F-trans (≤F-trans (neg-monoF (greatest-left (abs (X .lo)) (abs (X .hi)) f g)) (a .low)) (low h);
       high = ≤F-trans (high h) (≤F-trans (b .high) (greatest-right (abs (X .lo)) (abs (X .hi)) f g));
     }
+
+-- ---- an error of at most x in size
+pub symmetric-encloses : {k : ℕ} {e : Fraction} (x : Float) → Small k x → AbsF e (value x) → In k e (record { lo = neg x; hi = x })
+symmetric-encloses {k} x s h = between (small-neg k x s) s (≤F-trans (≈F-le (value-neg x)) (h .low)) (h .high)

@@ -4,11 +4,12 @@ pub mod Membership
 pub mod Encloses
 pub mod Quotient
 pub mod Bounds
--- doubles as fractions: their sizes, their tests, where no rounding takes place, the floor
+-- doubles as fractions: their sizes, their tests, where no rounding takes place, the floor, the series
 pub mod Small
 pub mod Compare
 pub mod Exact
 pub mod FloorLaws
+pub mod SeriesLaws
 -- the doubles in order, one rounding, one step
 pub mod Rank
 pub mod InOrder

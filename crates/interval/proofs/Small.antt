@@ -2,17 +2,18 @@
 use mathlib.Core.Path.{ap}
 use mathlib.Core.Bool.{Bool, true, false}
 use Prim.Native.Nat.{ℕ, suc, _*_, _^_, _≤_, _<_}
-use native.Mathlib.Nat.{le-trans, mul-le-mul-right}
+use native.Mathlib.Nat.{one-mul, le-trans, mul-le-mul-right}
 use native.Mathlib.Omega.{arith}
 use lib.Dec.{T}
 use lib.Pow.{pow-mono}
 use lib.IntN.{ℤ, pos, negsuc, natAbs, _*ℤ_}
-use lib.Ieee.{Float, nan, inf, fin, neg, up, down}
+use lib.Ieee.{Float, nan, inf, fin, neg, lt, eq, le, up, down}
 use lib.Ieee.Scale.{finite}
 use Rattle.exact.specs.Fraction.{Fraction, ratio, whole, negF, _≈F_, AbsF}
-use Rattle.exact.proofs.Fraction.{≤F-trans, ≈F-le, ≈F-ge, ≈F-sym, ≈F-trans, neg-ratio}
+use Rattle.exact.proofs.Fraction.{≤F-trans, ≈F-le, ≈F-ge, ≈F-sym, ≈F-trans, neg-ratio, neg-monoF}
 use Rattle.interval.specs.Encloses.{signed, value, Small}
 use Rattle.interval.proofs.Signs.{Le, signed-not, le-ratio, ratio-le}
+use Rattle.interval.proofs.Compare.{le-value}
 
 -- 2 ^ k
 abbrev pub power : ℕ → Fraction
@@ -81,3 +82,27 @@ unfolding neg
 value-neg nan = ≈F-sym (neg-ratio (value nan))
 value-neg (inf s) = ≈F-sym (neg-ratio (value nan))
 value-neg (fin s m e) = ≈F-trans (record { eq = ap (λ (z : ℤ). z *ℤ pos (down e)) (signed-not s (m * up e)) }) (≈F-sym (neg-ratio (value (fin s m e))))
+
+-- ---- the double 2 ^ k
+abbrev pub double : ℕ → Float
+double k = fin false 1 (pos k)
+
+pub double-value : (k : ℕ) → value (double k) ≈F power k
+double-value k = record { eq = ap (λ (n : ℕ). pos n *ℤ pos 1) (one-mul (2 ^ k)) }
+
+-- what two tests of a program show
+pub small-between : (k : ℕ) (x : Float) → T (le (fin true 1 (pos k)) x) → T (le x (double k)) → Small k x
+unfolding neg le lt eq
+small-between k x h g =
+    let f = finite-between x h g in
+    abs-small k x f
+    (record {
+      low = ≤F-trans (neg-monoF (≈F-le (double-value k))) (≤F-trans (≈F-ge (value-neg (double k))) (le-value (neg (double k)) x tt f h));
+      high = ≤F-trans (le-value x (double k) f tt g) (≈F-le (double-value k));
+    })
+  where
+    finite-between : (x : Float) → T (le (fin true 1 (pos k)) x) → T (le x (double k)) → T (finite x)
+    finite-between nan h g = h
+    finite-between (inf true) h g = h
+    finite-between (inf false) h g = g
+    finite-between (fin s m e) h g = tt

@@ -19,7 +19,7 @@ use Rattle.interval.proofs.Signs.{signed-not, lt-ratio}
 use Rattle.interval.proofs.Pattern.{over, Quanta}
 use Rattle.interval.proofs.Rounding.{Rounds, rounds-mono, rounded, rounded-mono, round-quanta, quanta-finite, kept-value, round-neg}
 use Rattle.interval.proofs.Rank.{Next, next-above}
-use Rattle.interval.proofs.Small.{power, small-abs, abs-top, abs-small, small-finite, small-neg, finite-neg, value-neg}
+use Rattle.interval.proofs.Small.{power, double, double-value, small-abs, abs-top, abs-small, small-finite, small-neg, finite-neg, value-neg}
 
 pub rounds-neg : {x : Float} {q : Fraction} → Rounds x q → Rounds (neg x) (negF q)
 rounds-neg r = record {
@@ -31,19 +31,13 @@ rounds-neg r = record {
   same = ≈F-trans (record { eq = ap (λ (z : ℤ). z *ℤ pos (r .bottom)) (signed-not (r .sign) (r .top)) }) (≈F-trans (≈F-sym (neg-ratio (ratio (signed (r .sign) (r .top)) (r .bottom) (r .bottom-pos)))) (neg-congF (r .same)));
 }
 
--- ---- the double 2 ^ k
-abbrev double : ℕ → Float
-double k = fin false 1 (pos k)
-
+-- ---- the double 2 ^ k is one of the format's
 double-fits : (k : ℕ) → k ≤ 1023 → T (fits binary64 (double k))
 unfolding fits
 double-fits k h = lt→ltb (1 * 2 ^ k) (2 ^ 1024 * 1) (below (2 ^ k) (2 ^ 1024) (lt-of-le-of-lt (pow-mono h) (lit< tt)))
   where
     below : (a b : ℕ) → a < b → 1 * a < b * 1
     below a b h = omega arith
-
-double-value : (k : ℕ) → value (double k) ≈F power k
-double-value k = record { eq = ap (λ (n : ℕ). pos n *ℤ pos 1) (one-mul (2 ^ k)) }
 
 -- ---- a rounding keeps the bound
 round-finite : (s : Bool) (n c k : ℕ) → 0 < c → k ≤ 1023 → n ≤ 2 ^ k * c → T (finite (round binary64 s n c))
