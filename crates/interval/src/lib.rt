@@ -1,7 +1,7 @@
 // Intervals of two doubles, stepped outward after every operation: document 01's "The interval stand-in".
 // Each function equals its definition in specs/ for all input; proofs/Encloses.antt says what the results hold.
 ghost use mathlib.Core.Path.{_≡_};
-ghost use Rattle.interval.specs.Interval.{point, twoPi, sum, difference, product, quotient, negation, square, mid, abs, magnitude, imin, imax, clamp01, least, greatest};
+ghost use Rattle.interval.specs.Interval.{point, twoPi, sum, difference, product, quotient, negation, square, mid, abs, magnitude, imin, imax, clamp01};
 
 pub mod step; // the next double above and below
 mod outward; // both ends stepped at once
