@@ -7,7 +7,7 @@ conversion of one fraction to its nearest double and the step to a neighbouring 
     python3 interval_list.py > data/interval
 
 A record is seven words of eight bytes, little endian: the operation, four words that it takes, the two ends of the answer.
-src/interval_list.rt says how they are read.
+src/main.rt says how they are read.
 """
 import math
 import random

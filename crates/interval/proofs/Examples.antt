@@ -62,7 +62,7 @@ nan-stays : nextUp nan ≡ nan
 unfolding nextUp nextDown sum product quotient square fromRational ofBits toBits isNan neg add mul div lt round
 nan-stays = refl
 
--- ---- 2π = 6.283185307179586476925.. is between the ends of `two_pi`
+-- ---- the first 22 digits of 2π lie between the ends of `two_pi`
 two-pi : ratio (pos 6283185307179586476925) 1000000000000000000000 (lit< tt) ∈ twoPi
 unfolding nextUp nextDown sum product quotient square fromRational ofBits toBits isNan neg add mul div lt round
 two-pi = record { above = record { le = record { le = tt } }; below = record { le = record { le = tt } } }

@@ -14,7 +14,7 @@ abbrev pub signed : Bool → ℕ → ℤ
 signed false n = pos n
 signed true n = negℤ (pos n)
 
--- the fraction that a finite double is
+-- the fraction that a finite double is; zero stands in for what is none
 abbrev pub value : Float → Fraction
 value nan = zeroF
 value (inf s) = zeroF

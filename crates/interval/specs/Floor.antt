@@ -1,4 +1,4 @@
--- The floor, the quarter number that rests on it and its remainder by 4. proofs/Floor.antt shows that `floor` is what the word says.
+-- The floor, the quarter number that rests on it and its remainder by 4. proofs/FloorLaws.antt shows that `floor` is what the word says.
 -- Definitions only; assumes nothing.
 use mathlib.Core.Bool.{true, false}
 use Prim.Native.Nat.{ℕ, _+_, _-_, _*_, _/_, _%_}

@@ -5,11 +5,11 @@ use lib.Ieee.{Float, binary64, neg, add, sub, mul, div, lt}
 use Rattle.interval.specs.declared.Interval.{Interval}
 use Rattle.interval.specs.Step.{b64, nextUp, nextDown}
 
--- an interval that is one double, or two
+-- an interval that is one double
 abbrev pub point : Float → Interval
 point x = record { lo = x; hi = x }
 
--- the lesser and the greater of two doubles; of two zeros, the first
+-- the lesser and the greater of two doubles. "Zeros of either sign are alike in all comparisons": of two zeros it is the first
 abbrev pub least : Float → Float → Float
 least a b = cond (lt b a) b a
 
@@ -20,7 +20,7 @@ greatest a b = cond (lt a b) b a
 abbrev pub outward : Float → Float → Interval
 outward low high = record { lo = nextDown low; hi = nextUp high }
 
--- the same of "all four" candidates
+-- "all four" candidates
 abbrev pub least4 : Float → Float → Float → Float → Float
 least4 a b c d = least (least a b) (least c d)
 
@@ -56,7 +56,7 @@ square x = product x x
 unfoldable pub mid : Interval → Float
 mid x = add binary64 (mul binary64 (x .lo) (b64 0x3fe0_0000_0000_0000)) (mul binary64 (x .hi) (b64 0x3fe0_0000_0000_0000))
 
--- "`two_pi` has the bits 401921FB54442D18 and 401921FB54442D19, which lie either side of 2π."
+-- "`two_pi` has the bits 401921FB54442D18 and 401921FB54442D19 (hexadecimal), which lie either side of 2π."
 abbrev pub twoPi : Interval
 twoPi = record { lo = b64 0x4019_21fb_5444_2d18; hi = b64 0x4019_21fb_5444_2d19 }
 

@@ -31,14 +31,14 @@ sineTerm i = ratio (alternating i) (factorial (i + i + 1)) (factorial-pos (i + i
 abbrev pub cosineTerm : ℕ → Fraction
 cosineTerm i = ratio (alternating i) (factorial (i + i)) (factorial-pos (i + i))
 
--- nine terms as intervals, from 1 on
+-- a term as an interval, and the first nine
 abbrev pub term : (ℕ → Fraction) → ℕ → Interval
 term f i = fromRational (f i .num) (f i .den)
 
 abbrev pub nine : (ℕ → Fraction) → List Interval
 nine f = term f 0 ∷ term f 1 ∷ term f 2 ∷ term f 3 ∷ term f 4 ∷ term f 5 ∷ term f 6 ∷ term f 7 ∷ term f 8 ∷ []
 
--- (4/5)^n / n!
+-- (4/5)^n / n!, and its "nearest double stepped up"
 abbrev pub tail : ℕ → Fraction
 tail n = ratio (pos (4 ^ n)) (5 ^ n * factorial n) (mul-pos (one-le-pow n 5 (zero-lt-suc 4)) (factorial-pos n))
 

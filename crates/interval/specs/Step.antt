@@ -18,11 +18,12 @@ upFrom n x =
     (cond (eqb n 0x8000_0000_0000_0000) (b64 1)
     (cond (ltb n 0x8000_0000_0000_0000) (b64 (n + 1)) (b64 (n - 1)))))
 
--- a NaN stays
+-- "the next double above"; a NaN stays
 unfoldable pub nextUp : Float → Float
 unfolding upFrom
 nextUp x = cond (isNan x) x (upFrom (toBits binary64 x) x)
 
+-- "the next double below"
 unfoldable pub nextDown : Float → Float
 unfolding nextUp
 nextDown x = neg (nextUp (neg x))

@@ -5,7 +5,7 @@ ghost use Rattle.interval.specs.Series.{sineTerm, cosineTerm, nine, tail
 use crate::Interval;
 
 impl Interval {
-    // ±1/n! for n = 1, 3, .. 17: of sin u / u in u².
+    // The reciprocals of the odd factorials, through 17!, with alternating signs: the sine over u, as a series in u².
     pub const SINE: [Interval; 9] = [
         Interval {
             lo: 0.9999999999999999,
@@ -45,7 +45,7 @@ impl Interval {
         },
     ];
 
-    // ±1/n! for n = 0, 2, .. 16: of cos u in u².
+    // The reciprocals of the even factorials, through 16!, with alternating signs: the cosine, as a series in u².
     pub const COSINE: [Interval; 9] = [
         Interval {
             lo: 0.9999999999999999,

@@ -4,8 +4,8 @@ use lib.Dec.{T}
 use lib.Ieee.{ofBits, neg}
 use Rattle.interval.proofs.Small.{small-between}
 use borrow.Author.Needs.{needs}
-use Rattle.replay.proofs.interval_list.floor_of.Statement.{statement}
-use Rattle.replay.proofs.interval_list.floor_of.Tie as tie
+use Rattle.replay.proofs.floor_of.Statement.{statement}
+use Rattle.replay.proofs.floor_of.Tie as tie
 
 floor-requires : tie.Need-floor-requires
 unfolding ofBits neg

@@ -6,8 +6,8 @@ use lib.Dec.{T}
 use lib.Ieee.{binary64}
 use lib.Ieee.Bits.{nanBits-above}
 use borrow.Author.Needs.{needs}
-use Rattle.replay.proofs.interval_list.float_of.Statement.{statement}
-use Rattle.replay.proofs.interval_list.float_of.Tie as tie
+use Rattle.replay.proofs.float_of.Statement.{statement}
+use Rattle.replay.proofs.float_of.Tie as tie
 
 returns : tie.Need-returns
 returns c = search needs

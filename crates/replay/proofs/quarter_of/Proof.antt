@@ -4,8 +4,8 @@ use lib.Dec.{T}
 use lib.Ieee.{ofBits, neg}
 use Rattle.interval.proofs.Small.{small-between}
 use borrow.Author.Needs.{needs}
-use Rattle.replay.proofs.interval_list.quarter_of.Statement.{statement}
-use Rattle.replay.proofs.interval_list.quarter_of.Tie as tie
+use Rattle.replay.proofs.quarter_of.Statement.{statement}
+use Rattle.replay.proofs.quarter_of.Tie as tie
 
 quarter-number-requires : tie.Need-quarter-number-requires
 unfolding ofBits neg

@@ -11,8 +11,8 @@ use mir.ValLaws.{toZ-ofZ}
 use Rattle.exact.specs.Within.{Within}
 use Rattle.exact.proofs.IntegerOrder.{zarith, difference-parts, negation-parts}
 use Rattle.exact.proofs.Size.{within-of-bounds, within-fits}
-use Rattle.replay.proofs.interval_list.number.Statement.{statement}
-use Rattle.replay.proofs.interval_list.number.Tie as tie
+use Rattle.replay.proofs.number.Statement.{statement}
+use Rattle.replay.proofs.number.Tie as tie
 
 cast-result : tie.Need-cast-result
 cast-result c = search needs
