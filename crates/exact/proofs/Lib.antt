@@ -7,3 +7,5 @@ pub mod Fraction
 pub mod FractionSize
 pub mod Size
 pub mod Signed
+-- worked by computation
+mod Examples
