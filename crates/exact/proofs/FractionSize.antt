@@ -1,5 +1,5 @@
 -- Sizes of fractions, the lesser and the greater of two, and a fraction held to 0..l. Assumes nothing.
-use mathlib.Core.Bool.{Bool, true, false, not, cond}
+use mathlib.Core.Bool.{not}
 use mathlib.Core.Logic.{inl, inr}
 use mathlib.Core.Path.{_≡_, refl, subst}
 use mathlib.Core.List.{[], _∷_}
@@ -7,6 +7,7 @@ use lib.Dec.{T}
 use lib.IntN.{ℤ, pos, _*ℤ_, zero-*ℤ}
 use lib.Signed.{_≤ℤ_, ltZ-yes, ltZ-no}
 use Rattle.exact.specs.Fraction.{Fraction, zeroF, _+F_, _-F_, _*F_, negF, _≤F_, _≈F_, AbsF, belowF, minF, maxF, heldF}
+use Rattle.exact.proofs.Choice.{choose}
 use Rattle.exact.proofs.IntegerOrder.{<ℤ-le, le-or-lt, mul-nonneg, mul-anti}
 use Rattle.exact.proofs.Ring.{lit, _⊕_, _⊗_, ⊝_}
 use Rattle.exact.proofs.FractionRing.{ringF}
@@ -65,10 +66,6 @@ square-nonneg a = num-nonneg (square (a .num))
     square z = elim (le-or-lt (pos 0) z) [ inl h ↦ mul-nonneg h h | inr h ↦ subst (λ (y : ℤ). y ≤ℤ (z *ℤ z)) (zero-*ℤ z) (mul-anti (<ℤ-le h) (<ℤ-le h)) ]
 
 -- ---- the lesser and the greater of two
-choose : (b : Bool) (x y : Fraction) (P : Fraction → Type 0) → (T b → P x) → (T (not b) → P y) → P (cond b x y)
-choose true x y P f g = f tt
-choose false x y P f g = g tt
-
 below-yes : {a b : Fraction} → T (belowF a b) → a ≤F b
 below-yes t = <F-le (record { lt = ltZ-yes t })
 

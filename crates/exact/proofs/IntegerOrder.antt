@@ -1,14 +1,14 @@
 -- The order of the whole numbers, read by `omega` through the two parts of a number, and the order's laws for sums and products.
 -- Assumes nothing.
 use mathlib.Core.Path.{_≡_, refl, ap, _∙_, subst}
-use mathlib.Core.Bool.{Bool, true, false, not, cond}
 use mathlib.Core.Logic.{_⊎_, inl, inr}
 use Prim.Native.Nat.{ℕ, zero, suc, _+_, _*_, _-_, _≤_, _<_}
 use native.Mathlib.Nat as NatL
 use native.Mathlib.Omega.{arith}
-use lib.Dec.{T, ltb, ltb→lt, nltb→le, leb→le, le→leb, lt→ltb}
+use lib.Dec.{ltb, ltb→lt, nltb→le, leb→le, le→leb, lt→ltb}
 use lib.IntN.{ℤ, pos, negsuc, negℤ, subℕ, _+ℤ_, _-ℤ_, _*ℤ_}
 use lib.Signed.{_≤ℤ_, _<ℤ_, leZ-yes, ltZ-yes}
+use Rattle.exact.proofs.Choice.{choose}
 use Rattle.exact.proofs.Integer.{*ℤ-distr, neg-*ℤ, *ℤ-neg}
 
 -- ---- the positive and the negative part: z is their difference, and one of them is 0. omega reads ℕ, so a fact on ℤ is handed to it by parts
@@ -20,12 +20,8 @@ abbrev pub negPart : ℤ → ℕ
 negPart (pos n) = 0
 negPart (negsuc n) = suc n
 
-cond-ind : (c : Bool) (x y : ℤ) (P : ℤ → Type 0) → (T c → P x) → (T (not c) → P y) → P (cond c x y)
-cond-ind true x y P f g = f tt
-cond-ind false x y P f g = g tt
-
 sub-parts : (a b : ℕ) → posPart (subℕ a b) + b ≡ a + negPart (subℕ a b)
-sub-parts a b = cond-ind (ltb a b) (negsuc (b - suc a)) (pos (a - b)) (λ z. posPart z + b ≡ a + negPart z)
+sub-parts a b = choose (ltb a b) (negsuc (b - suc a)) (pos (a - b)) (λ z. posPart z + b ≡ a + negPart z)
     (λ t. lt-case a b (ltb→lt a b t)) (λ t. le-case a b (nltb→le a b t))
   where
     lt-case : (a b : ℕ) → a < b → 0 + b ≡ a + suc (b - suc a)

@@ -1,4 +1,5 @@
 -- The laws of exact arithmetic, and how signed code is proved not to overflow. Assumes nothing.
+pub mod Choice
 pub mod Integer
 pub mod IntegerOrder
 pub mod Ring

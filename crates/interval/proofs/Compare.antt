@@ -1,5 +1,5 @@
 -- What the tests of finite doubles say of the fractions that they are; the lesser and the greater of two doubles. Assumes nothing.
-use mathlib.Core.Bool.{Bool, true, false, not, cond, _&&_, _||_, Bool·beq}
+use mathlib.Core.Bool.{Bool, true, false, not, _&&_, _||_, Bool·beq}
 use Prim.Native.Nat.{ℕ, _+_, _*_}
 use native.Mathlib.Omega.{arith}
 use mathlib.Core.Path.{_≡_}
@@ -7,6 +7,7 @@ use lib.Dec.{T, eqb, ltb→lt, nltb→le, eqb→eq}
 use lib.Ieee.{Float, nan, inf, fin, below, level, lt, eq, le, up, down}
 use lib.Ieee.Scale.{finite}
 use Rattle.exact.specs.Fraction.{_≤F_, _<F_}
+use Rattle.exact.proofs.Choice.{choose}
 use Rattle.exact.proofs.Fraction.{≤F-refl, ≤F-trans, <F-le}
 use Rattle.interval.specs.Interval.{least, greatest, least4, greatest4}
 use Rattle.interval.specs.Encloses.{value}
@@ -71,10 +72,6 @@ le-value x y f g h = go (lt x y) (eq x y) (lt-value x y f g) (eq-value x y f g) 
     go false false p q t = absurd t
 
 -- ---- the lesser and the greater: one of the two, and a bound of both
-choose : (b : Bool) (x y : Float) (P : Float → Type 0) → (T b → P x) → (T (not b) → P y) → P (cond b x y)
-choose true x y P f g = f tt
-choose false x y P f g = g tt
-
 module _ (x y : Float) where
   pub least-one : (P : Float → Type 0) → P x → P y → P (least x y)
   least-one P p q = choose (lt y x) y x P (λ _. q) (λ _. p)
