@@ -4,14 +4,17 @@ use mathlib.Core.Path.{_≡_, refl}
 use mathlib.Core.Bool.{true, false}
 use lib.IntN.{pos, negsuc}
 use lib.Ieee.{nan, inf, ofBits, toBits, mul, add, div, round, lt, neg, isNan}
-use Rattle.exact.specs.Fraction.{ratio}
-use lib.Dec.{lit<}
+use Rattle.exact.specs.Fraction.{Fraction, ratio, _-F_, _*F_}
+use lib.Dec.{lit<, lit≤}
 use Rattle.interval.specs.declared.Interval.{Interval}
 use Rattle.interval.specs.Step.{b64, nextUp, nextDown}
-use Rattle.interval.specs.Interval.{point, twoPi, sum, product, quotient, square}
+use Rattle.interval.specs.Interval.{point, twoPi, sum, difference, product, quotient, square}
 use Rattle.interval.specs.Nearest.{fromRational}
 use Rattle.interval.specs.Floor.{floor, modFour}
 use Rattle.interval.specs.Encloses.{_∈_}
+use Rattle.interval.proofs.Membership.{In}
+use Rattle.interval.proofs.Encloses.{sub-encloses, mul-encloses, fraction-encloses}
+use Rattle.interval.proofs.Quotient.{div-encloses, fraction-apart}
 
 -- ---- the steps at the ends of the format
 after-one : nextUp (b64 0x3ff0_0000_0000_0000) ≡ b64 0x3ff0_0000_0000_0001
@@ -115,3 +118,18 @@ floor-below-zero = refl
 remainder-below-zero : modFour (negsuc 0) ≡ 3
 unfolding nextUp nextDown sum product quotient square fromRational ofBits toBits isNan neg add mul div lt round
 remainder-below-zero = refl
+
+-- ---- the laws at work: a derivation repeats the expression; sizes are computed, and each test is `tt`
+abbrev tenth : Fraction
+tenth = ratio (pos 1) 10 (lit< tt)
+
+tenth-in : In 1 tenth (fromRational (pos 1) 10)
+tenth-in = fraction-encloses 0 tenth tt (lit≤ tt)
+
+-- 1/10 × 1/10 − 1/10
+product-less : In 5 (tenth *F tenth -F tenth) (difference (product (fromRational (pos 1) 10) (fromRational (pos 1) 10)) (fromRational (pos 1) 10))
+product-less = sub-encloses tt (mul-encloses tt tenth-in tenth-in) tenth-in
+
+-- 1/10 over 3 / 2 ^ 20
+third-of-tenth : In 23 (tenth *F ratio (pos 1048576) 3 (lit< tt)) (quotient (fromRational (pos 1) 10) (fromRational (pos 3) 1048576))
+third-of-tenth = div-encloses 21 (lit< tt) tt (fraction-apart 19 0 (ratio (pos 3) 1048576 (lit< tt)) tt tt (lit≤ tt) (record { le = record { le = tt } })) tenth-in (fraction-encloses 0 (ratio (pos 3) 1048576 (lit< tt)) tt (lit≤ tt))
