@@ -4,16 +4,18 @@ use mathlib.Core.Path.{_≡_, refl}
 use mathlib.Core.Bool.{true, false}
 use lib.IntN.{pos, negsuc}
 use lib.Ieee.{nan, inf, ofBits, toBits, mul, add, div, round, lt, neg, isNan}
-use Rattle.exact.specs.Fraction.{Fraction, ratio, _-F_, _*F_}
-use lib.Dec.{lit<, lit≤}
+use Rattle.exact.specs.Fraction.{Fraction, ratio, _-F_, _*F_, _≈F_}
+use lib.Dec.{T, lit<, lit≤}
+use lib.Ieee.Scale.{finite}
 use Rattle.interval.specs.declared.Interval.{Interval}
 use Rattle.interval.specs.Step.{b64, nextUp, nextDown}
-use Rattle.interval.specs.Interval.{point, twoPi, sum, difference, product, quotient, square}
-use Rattle.interval.specs.Nearest.{fromRational}
+use Rattle.interval.specs.Interval.{point, twoPi, sum, difference, product, quotient, square, mid}
+use Rattle.interval.specs.Nearest.{nearest, fromRational}
 use Rattle.interval.specs.Floor.{floor, modFour}
-use Rattle.interval.specs.Encloses.{_∈_}
+use Rattle.interval.specs.Encloses.{value, _∈_}
 use Rattle.interval.proofs.Membership.{In}
 use Rattle.interval.proofs.Encloses.{sub-encloses, mul-encloses, fraction-encloses}
+use Rattle.interval.proofs.Exact.{binary, nearest-exact, mid-exact}
 use Rattle.interval.proofs.Quotient.{div-encloses, fraction-apart}
 
 -- ---- the steps at the ends of the format
@@ -133,3 +135,10 @@ product-less = sub-encloses tt (mul-encloses tt tenth-in tenth-in) tenth-in
 -- 1/10 over 3 / 2 ^ 20
 third-of-tenth : In 23 (tenth *F ratio (pos 1048576) 3 (lit< tt)) (quotient (fromRational (pos 1) 10) (fromRational (pos 3) 1048576))
 third-of-tenth = div-encloses 21 (lit< tt) tt (fraction-apart 19 0 (ratio (pos 3) 1048576 (lit< tt)) tt tt (lit≤ tt) (record { le = record { le = tt } })) tenth-in (fraction-encloses 0 (ratio (pos 3) 1048576 (lit< tt)) tt (lit≤ tt))
+
+-- the middle of the ticks -3 and 5 is the fraction 2 / 2048: nothing is rounded
+middle : T (finite (mid (record { lo = nearest (negsuc 2) 1024; hi = nearest (pos 5) 1024 }))) × (value (mid (record { lo = nearest (negsuc 2) 1024; hi = nearest (pos 5) 1024 })) ≈F binary (pos 2) 11)
+middle =
+    let (f, e) = nearest-exact 10 (negsuc 2) tt (lit< tt) in
+    let (g, v) = nearest-exact 10 (pos 5) tt (lit< tt) in
+    mid-exact 10 (negsuc 2) (pos 5) (record { lo = nearest (negsuc 2) 1024; hi = nearest (pos 5) 1024 }) tt (lit< tt) f g e v

@@ -1,16 +1,16 @@
--- "The floor": `floor x` is at most x, and the whole number after it is above x. Assumes nothing.
-use mathlib.Core.Path.{sym, subst}
+-- "The floor": `floor x` is at most x, and the whole number after it is above x; and the remainder by 4. Assumes nothing.
+use mathlib.Core.Path.{_≡_, sym, ap, subst}
 use mathlib.Core.Bool.{true, false}
-use Prim.Native.Nat.{ℕ, zero, suc, _+_, _-_, _*_, _/_, _≤_, _<_}
+use Prim.Native.Nat.{ℕ, zero, suc, _+_, _-_, _*_, _/_, _%_, _≤_, _<_}
 use native.Mathlib.Nat.{div-mul-le-self, lt-div-mul-add}
 use native.Mathlib.Omega.{arith}
 use lib.Dec.{T}
-use lib.IntN.{ℤ, pos, negℤ, _+ℤ_}
+use lib.IntN.{ℤ, pos, negsuc, negℤ, _+ℤ_, _*ℤ_}
 use lib.Ieee.{Float, nan, inf, fin, up, down}
 use lib.Ieee.Fits.{down-pos}
 use lib.Ieee.Scale.{finite}
 use Rattle.exact.specs.Fraction.{whole, _≤F_, _<F_}
-use Rattle.interval.specs.Floor.{floor}
+use Rattle.interval.specs.Floor.{floor, modFour}
 use Rattle.interval.specs.Encloses.{value}
 use Rattle.interval.proofs.Signs.{signed-add, le-ratio, lt-ratio}
 
@@ -44,3 +44,15 @@ floor-above (fin true m e) f = go ((m * up e + (down e - 1)) / down e) (div-mul-
     go : (c : ℕ) → c * down e ≤ m * up e + (down e - 1) → value (fin true m e) <F whole (negℤ (pos c) +ℤ pos 1)
     go zero h = lt-ratio true false (m * up e) (down e) 1 1 (small (m * up e) (down e) (down-pos e))
     go (suc c) h = subst (λ (z : ℤ). value (fin true m e) <F whole z) (sym (signed-add true false true (suc c) 1 c (omega arith))) (lt-ratio true true (m * up e) (down e) c 1 (large (m * up e) (down e) c (down-pos e) h))
+
+-- "q mod 4": q is a multiple of 4 and a number from 0 to 3
+pub remainder-below : (q : ℤ) → modFour q < 4
+remainder-below (pos n) = omega arith
+remainder-below (negsuc n) = omega arith
+
+pub remainder-is : (q : ℤ) → (k : ℤ) × (q ≡ k *ℤ pos 4 +ℤ pos (modFour q))
+remainder-is (pos n) = (pos (n / 4), ap pos (whole-part n))
+  where
+    whole-part : (n : ℕ) → n ≡ n / 4 * 4 + n % 4
+    whole-part n = omega arith
+remainder-is (negsuc n) = (negsuc (n / 4), sym (signed-add true false true (suc (n / 4) * 4) (3 - n % 4) (suc n) (omega arith)))
