@@ -2,11 +2,11 @@
 use mathlib.Core.Path.{_≡_, refl, sym, ap, _∙_, subst, subst₂}
 use mathlib.Core.Logic.{_⊎_, inl, inr}
 use mathlib.Core.List.{[], _∷_}
-use Prim.Native.Nat.{ℕ, _*_, _<_}
+use Prim.Native.Nat.{ℕ, suc, _*_, _<_}
 use lib.Dec.{lt→ltb}
-use lib.IntN.{ℤ, pos, negsuc, negℤ, _+ℤ_, _*ℤ_, *ℤ-comm, zero-*ℤ}
+use lib.IntN.{ℤ, pos, negsuc, negℤ, _+ℤ_, _-ℤ_, _*ℤ_, *ℤ-comm, zero-*ℤ}
 use lib.Signed.{_≤ℤ_, _<ℤ_, ltZ-yes, leZ-yes, ≤ℤ-refl, <ℤ-≤ℤ-trans, <ℤ-irrefl}
-use Rattle.exact.specs.Fraction.{Fraction, denZ, ratio, whole, zeroF, _+F_, _-F_, _*F_, negF, _≤F_, _<F_, _≈F_}
+use Rattle.exact.specs.Fraction.{Fraction, denZ, ratio, whole, zeroF, _+F_, _-F_, _*F_, _/F_, negF, _≤F_, _<F_, _≈F_}
 use Rattle.exact.proofs.Integer.{one-*ℤ, neg-*ℤ}
 use Rattle.exact.proofs.IntegerOrder.{≤ℤ-trans, ≤ℤ-<ℤ-trans, <ℤ-le, ≤ℤ-antisym, le-or-lt, add-mono, neg-mono-lt, mul-mono, mul-mono-lt, mul-anti, mul-nonneg, mul-cancel-le, mul-cancel-lt}
 use Rattle.exact.proofs.Ring.{lit, _⊕_, _⊖_, _⊗_, ⊝_, ring}
@@ -201,3 +201,32 @@ num-above {a} h = record { lt = subst₂ (λ (x y : ℤ). x <ℤ y) (sym (zero-*
 
 pub num-below : {a : Fraction} → a .num <ℤ pos 0 → a <F zeroF
 num-below {a} h = record { lt = subst₂ (λ (x y : ℤ). x <ℤ y) (sym (num-one (a .num))) (sym (zero-*ℤ (denZ a))) h }
+
+-- ---- what is divided by a whole number
+pub over-is : (a : Fraction) {n : ℕ} (N : 0 < n) → a /F n ≈F a *F ratio (pos 1) n N
+unfolding _/F_ _*F_
+over-is a {n = suc n} N = record { eq = ring 2 (λ z d. z ⊗ d) (λ z d. z ⊗ lit (pos 1) ⊗ d) tt (a .num ∷ pos (a .den * suc n) ∷ []) }
+
+pub over-mono : {a b : Fraction} {n : ℕ} → 0 < n → a ≤F b → a /F n ≤F b /F n
+over-mono {a} {b} {n} N h = ≤F-trans (≈F-le (≈F-trans (over-is a N) (commF a (ratio (pos 1) n N)))) (≤F-trans (mul-monoF (ratio (pos 1) n N) (leZ-yes tt) h) (≈F-ge (≈F-trans (over-is b N) (commF b (ratio (pos 1) n N)))))
+
+-- over n and times n again
+pub over-times : (a : Fraction) {n : ℕ} → 0 < n → a /F n *F whole (pos n) ≈F a
+unfolding _/F_ _*F_
+over-times a {n = suc n} N = record { eq = ring 3 (λ z d n. z ⊗ n ⊗ d) (λ z d n. z ⊗ (d ⊗ n ⊗ lit (pos 1))) tt (a .num ∷ denZ a ∷ pos (suc n) ∷ []) }
+
+-- ---- whole numbers among the fractions
+pub whole-le : {z w : ℤ} → z ≤ℤ w → whole z ≤F whole w
+whole-le h = same-den-le h
+
+pub whole-add : (z w : ℤ) → whole z +F whole w ≈F whole (z +ℤ w)
+unfolding _+F_
+whole-add z w = record { eq = ring 2 (λ z w. (z ⊗ lit (pos 1) ⊕ w ⊗ lit (pos 1)) ⊗ lit (pos 1)) (λ z w. (z ⊕ w) ⊗ lit (pos 1)) tt (z ∷ w ∷ []) }
+
+pub whole-sub : (z w : ℤ) → whole z -F whole w ≈F whole (z -ℤ w)
+unfolding _-F_
+whole-sub z w = record { eq = ring 2 (λ z w. (z ⊗ lit (pos 1) ⊖ w ⊗ lit (pos 1)) ⊗ lit (pos 1)) (λ z w. (z ⊖ w) ⊗ lit (pos 1)) tt (z ∷ w ∷ []) }
+
+pub whole-mul : (z w : ℤ) → whole z *F whole w ≈F whole (z *ℤ w)
+unfolding _*F_
+whole-mul z w = record { eq = refl }

@@ -1,14 +1,14 @@
 -- Sizes of fractions, the lesser and the greater of two, and a fraction held to 0..l. Assumes nothing.
 use mathlib.Core.Bool.{not}
 use mathlib.Core.Logic.{inl, inr}
-use mathlib.Core.Path.{_≡_, refl, subst}
+use mathlib.Core.Path.{_≡_, refl}
 use mathlib.Core.List.{[], _∷_}
 use lib.Dec.{T}
-use lib.IntN.{ℤ, pos, _*ℤ_, zero-*ℤ}
-use lib.Signed.{_≤ℤ_, ltZ-yes, ltZ-no}
+use lib.IntN.{pos}
+use lib.Signed.{ltZ-yes, ltZ-no}
 use Rattle.exact.specs.Fraction.{Fraction, zeroF, _+F_, _-F_, _*F_, negF, _≤F_, _≈F_, AbsF, belowF, minF, maxF, heldF}
 use Rattle.exact.proofs.Choice.{choose}
-use Rattle.exact.proofs.IntegerOrder.{<ℤ-le, le-or-lt, mul-nonneg, mul-anti}
+use Rattle.exact.proofs.IntegerOrder.{square-nonnegℤ}
 use Rattle.exact.proofs.Ring.{lit, _⊕_, _⊗_, ⊝_}
 use Rattle.exact.proofs.FractionRing.{ringF}
 use Rattle.exact.proofs.Fraction.{≤F-refl, ≤F-trans, <F-le, le-or-ltF, ≈F-le, ≈F-ge, ≤F-antisym, add-monoF, neg-monoF, mul-monoF, sub-is-add, product-low, product-high, nonneg-num, num-nonneg}
@@ -60,10 +60,7 @@ abs-mul {x} {y} {a} {b} h k = record {
 
 pub square-nonneg : (a : Fraction) → zeroF ≤F a *F a
 unfolding _*F_
-square-nonneg a = num-nonneg (square (a .num))
-  where
-    square : (z : ℤ) → pos 0 ≤ℤ (z *ℤ z)
-    square z = elim (le-or-lt (pos 0) z) [ inl h ↦ mul-nonneg h h | inr h ↦ subst (λ (y : ℤ). y ≤ℤ (z *ℤ z)) (zero-*ℤ z) (mul-anti (<ℤ-le h) (<ℤ-le h)) ]
+square-nonneg a = num-nonneg (square-nonnegℤ (a .num))
 
 -- ---- the lesser and the greater of two
 below-yes : {a b : Fraction} → T (belowF a b) → a ≤F b

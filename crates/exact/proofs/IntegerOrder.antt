@@ -182,6 +182,19 @@ mul-anti {a} {b} {c} hc h = nonneg-sub (subst (λ (z : ℤ). pos 0 ≤ℤ z) fli
     flip : (b -ℤ a) *ℤ negℤ c ≡ a *ℤ c -ℤ b *ℤ c
     flip = *ℤ-neg (b -ℤ a) c ∙ ap negℤ (sub-mul a b c) ∙ parts-eq (negℤ (b *ℤ c -ℤ a *ℤ c)) (a *ℤ c -ℤ b *ℤ c) (omega (zarith, negation-parts (b *ℤ c -ℤ a *ℤ c), difference-parts (b *ℤ c) (a *ℤ c), difference-parts (a *ℤ c) (b *ℤ c)))
 
+-- squares
+pub square-nonnegℤ : (z : ℤ) → pos 0 ≤ℤ (z *ℤ z)
+square-nonnegℤ (pos n) = leZ-yes (le→leb 0 (n * n) (omega arith))
+square-nonnegℤ (negsuc n) = leZ-yes (le→leb 0 (suc n * suc n) (omega arith))
+
+pub square-pos : (z : ℤ) → (z ≡ pos 0 → ⊥) → pos 0 <ℤ (z *ℤ z)
+square-pos (pos zero) h = absurd (h refl)
+square-pos (pos (suc n)) h = ltZ-yes (lt→ltb 0 (suc n * suc n) (omega arith))
+square-pos (negsuc n) h = ltZ-yes (lt→ltb 0 (suc n * suc n) (omega arith))
+
+pub sub-zero : {a b : ℤ} → b -ℤ a ≡ pos 0 → a ≡ b
+sub-zero {a} {b} e = parts-eq a b (omega (zarith, difference-parts b a, eq-parts e))
+
 -- what is multiplied by a positive number can be divided by it
 pub mul-cancel-le : {a b c : ℤ} → pos 0 <ℤ c → (a *ℤ c) ≤ℤ (b *ℤ c) → a ≤ℤ b
 mul-cancel-le {a} {b} {c} hc h = pick (le-or-lt a b)

@@ -2,8 +2,8 @@
 -- Order and equality are by cross multiplication. Definitions only; assumes nothing.
 use mathlib.Core.Path.{_≡_}
 use mathlib.Core.Bool.{Bool, cond}
-use Prim.Native.Nat.{ℕ, _*_, _<_}
-use native.Mathlib.Nat.{mul-pos}
+use Prim.Native.Nat.{ℕ, zero, suc, _*_, _<_}
+use native.Mathlib.Nat.{mul-pos, zero-lt-suc}
 use lib.Dec.{lit<}
 use lib.IntN.{ℤ, pos, negℤ, _+ℤ_, _-ℤ_, _*ℤ_}
 use lib.Signed.{_≤ℤ_, _<ℤ_, ltZ}
@@ -45,6 +45,12 @@ a *F b = ratio (a .num *ℤ b .num) (a .den * b .den) (mul-pos (a .den-pos) (b .
 
 unfoldable pub negF : Fraction → Fraction
 negF a = ratio (negℤ (a .num)) (a .den) (a .den-pos)
+
+-- a over n. Over zero it would be no fraction; zero stands there, and nothing is divided so
+infixl 7 _/F_
+unfoldable pub _/F_ : Fraction → ℕ → Fraction
+a /F zero = zeroF
+a /F suc n = ratio (a .num) (a .den * suc n) (mul-pos (a .den-pos) (zero-lt-suc n))
 
 -- ---- order and equality
 infix 4 _≤F_ _<F_ _≈F_

@@ -1,0 +1,20 @@
+-- By the definition. Assumes nothing.
+use Rattle.grade.specs.Intervals.{gradeIntervals}
+use borrow.Author.Needs.{needs}
+use Rattle.grade.proofs.GradeDef.intervals.Statement.{statement}
+use Rattle.grade.proofs.GradeDef.intervals.Tie as tie
+use Rattle.grade.proofs.GradeDef.intervals.Reads as reads
+use Rattle.grade.proofs.GradeDef.intervals.Lts as lts
+use Rattle.grade.proofs.Linear.intervals.Reads as intervals-reads
+
+-- src/intervals.rt:82:21
+intervals-requires : tie.Need-intervals-requires
+intervals-requires c κs = search needs
+
+-- src/intervals.rt:74:5
+returns : tie.Need-returns
+unfolding gradeIntervals
+returns c = rw (c .intervals .ensures)
+
+pub intervals-spec : {M : Type 1} → statement M
+intervals-spec = tie.close (tie.spec intervals-requires returns)

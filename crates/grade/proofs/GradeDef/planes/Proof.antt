@@ -1,0 +1,102 @@
+use Prim.Native.Nat.{ℕ, _*_, _<_}
+use native.Mathlib.Omega.{arith}
+use mir.Syntax.{w64}
+use mir.Val.{Fits}
+-- The axis is below 3, so each place is in its array. Assumes nothing.
+use Rattle.grade.proofs.AxisLaws.{axis-one, within-at}
+use Rattle.grade.specs.Certified.{defAxis, planesOn, planes}
+use Rattle.grade.specs.declared.Planes.the-variants.{Found}
+use Rattle.grade.specs.declared.Axis.{Axis}
+use Rattle.grade.specs.declared.GradeDef.{GradeDef}
+use mathlib.Core.Path.{_≡_, sym, ap, _∙_}
+use Rattle.exact.proofs.Signed.{is, fits, bit, add}
+use borrow.Author.Needs.{needs}
+use Rattle.grade.proofs.GradeDef.planes.Statement.{statement}
+use Rattle.grade.proofs.GradeDef.planes.Tie as tie
+use Rattle.grade.proofs.GradeDef.planes.Reads as reads
+use Rattle.grade.proofs.GradeDef.planes.Lts as lts
+use Rattle.grade.proofs.GradeDef.axis.Reads as axis-reads
+
+
+eight : {i : ℕ} → i < 3 → Fits w64 (i * 8)
+eight {i} h = record { fits = omega arith }
+
+found : (g : GradeDef) {a : Axis} → defAxis g ≡ a → planesOn a (g .linear) ≡ planes g
+unfolding planes
+found g e = sym (ap (λ a. planesOn a (g .linear)) e)
+
+-- src/certified.rt:108:28
+axis-requires : tie.Need-axis-requires
+axis-requires c κs = search needs
+
+-- src/certified.rt:108:23
+enum-known-i : tie.Need-enum-known-i
+enum-known-i c = search needs
+
+-- src/certified.rt:109:13
+enum-told : tie.Need-enum-told
+enum-told c = search needs
+
+-- src/certified.rt:109:13
+returns : tie.Need-returns
+returns c =
+    found _ (sym (c .before .before .axis .ensures) ∙ c .enum-told .given .1)
+
+-- src/certified.rt:113:19
+mul-t7 : tie.Need-mul-t7
+mul-t7 c = eight (axis-one (c .before .before .before .before .before .before .before .args .self) (c .before .before .before .axis .ensures) (c .before .i .given .1))
+
+-- src/certified.rt:113:19
+array-copy-out-t10 : tie.Need-array-copy-out-t10
+array-copy-out-t10 c = axis-one (c .before .before .before .before .before .before .before .args .self) (c .before .before .before .axis .ensures) (c .before .i .given .1)
+
+-- src/certified.rt:114:17
+mul-t11 : tie.Need-mul-t11
+mul-t11 c = eight (axis-one (c .before .before .before .before .before .before .before .before .args .self) (c .before .before .before .before .axis .ensures) (c .before .before .i .given .1))
+
+-- src/certified.rt:114:17
+array-copy-out-t14 : tie.Need-array-copy-out-t14
+array-copy-out-t14 c = axis-one (c .before .before .before .before .before .before .before .before .args .self) (c .before .before .before .before .axis .ensures) (c .before .before .i .given .1)
+
+-- src/certified.rt:114:27
+mul-t15 : tie.Need-mul-t15
+mul-t15 c = eight (axis-one (c .before .before .before .before .before .before .before .before .before .args .self) (c .before .before .before .before .before .axis .ensures) (c .before .before .before .i .given .1))
+
+-- src/certified.rt:114:27
+array-copy-out-t18 : tie.Need-array-copy-out-t18
+array-copy-out-t18 c = axis-one (c .before .before .before .before .before .before .before .before .before .args .self) (c .before .before .before .before .before .axis .ensures) (c .before .before .before .i .given .1)
+
+-- src/certified.rt:114:17
+add-t19 : tie.Need-add-t19
+add-t19 c =
+    let i = c .before .before .before .before .i .given .0 .0 in
+    let b = axis-one (c .before .before .before .before .before .before .before .before .before .before .args .self) (c .before .before .before .before .before .before .axis .ensures) (c .before .before .before .before .i .given .1) in
+    let p = c .before .before .before .before .before .before .before .before .before .before .pre .linear in
+    fits tt (add (bit tt (is (within-at (p .from) i b))) (bit tt (is (within-at (p .direction) i b))))
+
+-- src/certified.rt:101:5
+returns-2 : tie.Need-returns-2
+returns-2 c =
+    let i = c .before .before .before .before .i .given .0 .0 in
+    let b = axis-one (c .before .before .before .before .before .before .before .before .before .before .args .self) (c .before .before .before .before .before .before .axis .ensures) (c .before .before .before .before .i .given .1) in
+    let p = c .before .before .before .before .before .before .before .before .before .before .pre .linear in
+    let f = bit tt (is (within-at (p .from) i b)) in
+    let t = bit tt (add f (bit tt (is (within-at (p .direction) i b)))) in
+    (λ k. Found i (f .same k) (t .same k)) ∙ found (c .before .before .before .before .before .before .before .before .before .before .args .self) (sym (c .before .before .before .before .before .before .axis .ensures) ∙ c .before .before .before .before .i .given .1)
+
+pub planes-spec : {M : Type 1} → statement M
+planes-spec =
+    tie.close
+    (tie.spec
+    axis-requires
+    enum-known-i
+    enum-told
+    returns
+    mul-t7
+    array-copy-out-t10
+    mul-t11
+    array-copy-out-t14
+    mul-t15
+    array-copy-out-t18
+    add-t19
+    returns-2)

@@ -1,0 +1,46 @@
+-- By the kind. Assumes nothing.
+use Rattle.grade.proofs.Sizes.{distance-within, rise-within}
+use Rattle.grade.specs.Certified.{slopeBound}
+use Rattle.exact.proofs.Signed.{got, bit}
+use borrow.Author.Needs.{needs}
+use Rattle.grade.proofs.GradeDef.slope_bound.Statement.{statement}
+use Rattle.grade.proofs.GradeDef.slope_bound.Tie as tie
+use Rattle.grade.proofs.GradeDef.slope_bound.Reads as reads
+use Rattle.grade.proofs.GradeDef.slope_bound.Lts as lts
+use Rattle.grade.proofs.Linear.distance.Reads as distance-reads
+use Rattle.grade.proofs.Linear.rise.Reads as rise-reads
+
+-- src/certified.rt:125:36
+enum-told : tie.Need-enum-told
+enum-told c = search needs
+
+-- src/certified.rt:130:23
+enum-told-2 : tie.Need-enum-told-2
+enum-told-2 c = search needs
+
+-- src/certified.rt:130:23
+rise-requires : tie.Need-rise-requires
+rise-requires c κs = search needs
+
+-- src/certified.rt:131:27
+distance-requires : tie.Need-distance-requires
+distance-requires c κs = search needs
+
+-- src/certified.rt:118:5
+returns : tie.Need-returns
+unfolding slopeBound
+returns c = rw (c .enum-told .given .1)
+
+-- src/certified.rt:118:5
+returns-2 : tie.Need-returns-2
+unfolding slopeBound
+returns-2 c =
+    let p = c .before .before .before .before .before .pre .linear in
+    let g = c .before .before .before .before .before .args .self .linear in
+    let r = bit tt (got (c .before .rise .ensures) (rise-within g p)) in
+    let d = bit tt (got (c .distance .ensures) (distance-within g p)) in
+    rw (r .same, d .same, c .before .before .enum-told2 .given .1)
+
+pub slope-bound-spec : {M : Type 1} → statement M
+slope-bound-spec =
+    tie.close (tie.spec enum-told enum-told-2 rise-requires distance-requires returns returns-2)

@@ -1,0 +1,62 @@
+-- By the piece. Assumes nothing.
+use Rattle.grade.specs.Intervals.{pieceGradient}
+use borrow.Author.Needs.{needs}
+use Rattle.grade.proofs.GradeIntervals.piece_gradient.Statement.{statement}
+use Rattle.grade.proofs.GradeIntervals.piece_gradient.Tie as tie
+use Rattle.grade.proofs.GradeIntervals.piece_gradient.Reads as reads
+use Rattle.grade.proofs.GradeIntervals.piece_gradient.Lts as lts
+use Rattle.grade.proofs.GradeIntervals.gradient.Reads as gradient-reads
+use Rattle.grade.proofs.intervals.zeros.Reads as zeros-reads
+
+-- src/intervals.rt:179:29
+enum-told : tie.Need-enum-told
+enum-told c = search needs
+
+-- src/intervals.rt:179:29
+zeros-requires : tie.Need-zeros-requires
+zeros-requires c κs = search needs
+
+-- src/intervals.rt:180:28
+enum-told-2 : tie.Need-enum-told-2
+enum-told-2 c = search needs
+
+-- src/intervals.rt:180:28
+gradient-requires : tie.Need-gradient-requires
+gradient-requires c κs = search needs
+
+-- src/intervals.rt:181:27
+enum-told-3 : tie.Need-enum-told-3
+enum-told-3 c = search needs
+
+-- src/intervals.rt:181:27
+zeros-requires-2 : tie.Need-zeros-requires-2
+zeros-requires-2 c κs = search needs
+
+-- src/intervals.rt:175:5
+returns : tie.Need-returns
+unfolding pieceGradient
+returns c = rw (c .zeros .ensures, c .before .enum-told .given .1)
+
+-- src/intervals.rt:175:5
+returns-2 : tie.Need-returns-2
+unfolding pieceGradient
+returns-2 c = rw (c .gradient .ensures, c .before .enum-told2 .given .1)
+
+-- src/intervals.rt:175:5
+returns-3 : tie.Need-returns-3
+unfolding pieceGradient
+returns-3 c = rw (c .zeros2 .ensures, c .before .enum-told3 .given .1)
+
+pub piece-gradient-spec : {M : Type 1} → statement M
+piece-gradient-spec =
+    tie.close
+    (tie.spec
+    enum-told
+    zeros-requires
+    enum-told-2
+    gradient-requires
+    enum-told-3
+    zeros-requires-2
+    returns
+    returns-2
+    returns-3)

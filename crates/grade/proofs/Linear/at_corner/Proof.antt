@@ -1,0 +1,44 @@
+-- The corner and its difference from the anchor keep the sizes that the calls ask. Assumes nothing.
+use Rattle.grade.proofs.Sizes.{minus-within, corner-within, at-corner-within}
+use Rattle.grade.specs.Fits.{Within3}
+use Rattle.grade.specs.Exact.{atCorner}
+use Rattle.grade.specs.Grade.{minus, dot}
+use mathlib.Core.Path.{_≡_, ap, _∙_, subst⁻¹}
+use Rattle.exact.proofs.Signed.{got, bit}
+use borrow.Author.Needs.{needs}
+use Rattle.grade.proofs.Linear.at_corner.Statement.{statement}
+use Rattle.grade.proofs.Linear.at_corner.Tie as tie
+use Rattle.grade.proofs.Linear.at_corner.Reads as reads
+use Rattle.grade.proofs.Linear.at_corner.Lts as lts
+use Rattle.grade.proofs.vector.corner.Reads as corner-reads
+use Rattle.grade.proofs.vector.dot.Reads as dot-reads
+use Rattle.grade.proofs.vector.minus.Reads as minus-reads
+
+-- src/ramp.rt:81:13
+corner-requires : tie.Need-corner-requires
+corner-requires c κs = search needs
+
+-- src/ramp.rt:82:13
+minus-requires : tie.Need-minus-requires
+minus-requires c κs =
+    let p = c .before .before .before .pre in
+    (subst⁻¹ (Within3 1048576) (c .corner .ensures) (corner-within (c .before .before .before .args .self .direction) (p .1 .0) (p .1 .1)), p .0 .from)
+
+-- src/ramp.rt:83:9
+dot-requires : tie.Need-dot-requires
+dot-requires c κs =
+    let p = c .before .before .before .before .pre in
+    let e = c .minus .ensures ∙ ap (λ q. minus q (c .before .before .before .before .args .self .from)) (c .before .corner .ensures) in
+    (subst⁻¹ (Within3 2097152) e (minus-within (corner-within (c .before .before .before .before .args .self .direction) (p .1 .0) (p .1 .1)) (p .0 .from)), p .0 .direction)
+
+-- src/ramp.rt:75:5
+returns : tie.Need-returns
+unfolding atCorner
+returns c =
+    let g = c .before .before .before .before .before .args .self in
+    let p = c .before .before .before .before .before .pre in
+    let e = c .before .minus .ensures ∙ ap (λ q. minus q (g .from)) (c .before .before .corner .ensures) in
+    bit tt (got (c .dot .ensures ∙ ap (λ q. dot q (g .direction)) e) (at-corner-within g (p .0) (p .1 .0) (p .1 .1))) .same
+
+pub at-corner-spec : {M : Type 1} → statement M
+at-corner-spec = tie.close (tie.spec corner-requires minus-requires dot-requires returns)

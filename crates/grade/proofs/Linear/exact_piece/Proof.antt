@@ -1,0 +1,42 @@
+-- The two corners against 0 and L. Assumes nothing.
+use Rattle.grade.proofs.Sizes.{at-corner-within}
+use Rattle.grade.specs.Exact.{chosen, linearPiece}
+use lib.Signed.{leZ}
+use lib.IntN.{pos}
+use mathlib.Core.Bool.{_&&_}
+use mathlib.Core.Path.{_∙_}
+use Rattle.exact.proofs.Signed.{is, got, bit}
+use borrow.Author.Needs.{needs}
+use Rattle.grade.proofs.Linear.exact_piece.Statement.{statement}
+use Rattle.grade.proofs.Linear.exact_piece.Tie as tie
+use Rattle.grade.proofs.Linear.exact_piece.Reads as reads
+use Rattle.grade.proofs.Linear.exact_piece.Lts as lts
+use Rattle.grade.proofs.Linear.at_corner.Reads as at-corner-reads
+use Rattle.grade.proofs.ramp.chosen.Reads as chosen-reads
+
+-- src/ramp.rt:108:13
+at-corner-requires : tie.Need-at-corner-requires
+at-corner-requires c κs = search needs
+
+-- src/ramp.rt:109:13
+at-corner-requires-2 : tie.Need-at-corner-requires-2
+at-corner-requires-2 c κs = search needs
+
+-- src/ramp.rt:111:9
+chosen-requires : tie.Need-chosen-requires
+chosen-requires c κs = search needs
+
+-- src/ramp.rt:104:5
+returns : tie.Need-returns
+unfolding linearPiece
+returns c =
+    let g = c .before .before .before .before .args .self in
+    let p = c .before .before .before .before .pre in
+    let t = bit tt (got (c .before .before .before .at-corner .ensures) (at-corner-within g (p .0) (p .1 .0) (p .1 .1))) .same in
+    let u = bit tt (got (c .before .before .at-corner2 .ensures) (at-corner-within g (p .0) (p .1 .1) (p .1 .0))) .same in
+    let l = bit tt (is (p .0 .length)) .same in
+    c .chosen .ensures ∙ (λ k. chosen (leZ (u k) (pos 0)) (leZ (l k) (t k)) (leZ (pos 0) (t k) && leZ (u k) (l k)))
+
+pub exact-piece-spec : {M : Type 1} → statement M
+exact-piece-spec =
+    tie.close (tie.spec at-corner-requires at-corner-requires-2 chosen-requires returns)

@@ -1,0 +1,119 @@
+-- By the definition, from the calls; each number is read back from its bits. Assumes nothing.
+use Rattle.grade.specs.Fast.{near, clamp, fastAlong, linearFast}
+use Rattle.interval.specs.Nearest.{nearest}
+use lib.Ieee.{binary64, nan, add, sub, mul, div}
+use lib.ListN.{getD}
+use lib.Dec.{lit<, lit≤}
+use mathlib.Core.Path.{_∙_}
+use Rattle.exact.proofs.Size.{within-fits}
+use Rattle.exact.proofs.Signed.{heard, heard₂, within-bits}
+use borrow.Author.Needs.{needs}
+use Rattle.grade.proofs.Linear.fast.Statement.{statement}
+use Rattle.grade.proofs.Linear.fast.Tie as tie
+use Rattle.grade.proofs.Linear.fast.Reads as reads
+use Rattle.grade.proofs.Linear.fast.Lts as lts
+use Rattle.grade.proofs.fast.clamp.Reads as clamp-reads
+use Rattle.grade.proofs.fast.fast_along.Reads as fast-along-reads
+use Rattle.grade.proofs.fast.near.Reads as near-reads
+use Rattle.interval.proofs.nearest.nearest.Reads as nearest-reads
+
+-- src/fast.rt:45:28
+array-read-fast-along : tie.Need-array-read-fast-along
+array-read-fast-along c = search needs
+
+-- src/fast.rt:45:34
+array-copy-out-fast-along : tie.Need-array-copy-out-fast-along
+array-copy-out-fast-along c = search needs
+
+-- src/fast.rt:45:43
+array-copy-out-fast-along-2 : tie.Need-array-copy-out-fast-along-2
+array-copy-out-fast-along-2 c = search needs
+
+-- src/fast.rt:45:13
+fast-along-requires : tie.Need-fast-along-requires
+fast-along-requires c κs = (within-bits 2097152 tt tt (c .before .before .before .before .pre .from .x), within-bits 2097152 tt tt (c .before .before .before .before .pre .direction .x))
+
+-- src/fast.rt:46:28
+array-read-fast-along-2 : tie.Need-array-read-fast-along-2
+array-read-fast-along-2 c = search needs
+
+-- src/fast.rt:46:34
+array-copy-out-fast-along-3 : tie.Need-array-copy-out-fast-along-3
+array-copy-out-fast-along-3 c = search needs
+
+-- src/fast.rt:46:43
+array-copy-out-fast-along-4 : tie.Need-array-copy-out-fast-along-4
+array-copy-out-fast-along-4 c = search needs
+
+-- src/fast.rt:46:13
+fast-along-requires-2 : tie.Need-fast-along-requires-2
+fast-along-requires-2 c κs = (within-bits 2097152 tt tt (c .before .before .before .before .before .before .before .pre .from .y), within-bits 2097152 tt tt (c .before .before .before .before .before .before .before .pre .direction .y))
+
+-- src/fast.rt:47:28
+array-read-fast-along-3 : tie.Need-array-read-fast-along-3
+array-read-fast-along-3 c = search needs
+
+-- src/fast.rt:47:34
+array-copy-out-fast-along-5 : tie.Need-array-copy-out-fast-along-5
+array-copy-out-fast-along-5 c = search needs
+
+-- src/fast.rt:47:43
+array-copy-out-fast-along-6 : tie.Need-array-copy-out-fast-along-6
+array-copy-out-fast-along-6 c = search needs
+
+-- src/fast.rt:47:13
+fast-along-requires-3 : tie.Need-fast-along-requires-3
+fast-along-requires-3 c κs = (within-bits 2097152 tt tt (c .before .before .before .before .before .before .before .before .before .before .pre .from .z), within-bits 2097152 tt tt (c .before .before .before .before .before .before .before .before .before .before .pre .direction .z))
+
+-- src/fast.rt:48:37
+nearest-requires : tie.Need-nearest-requires
+nearest-requires c κs = (within-bits 9007199254740992 tt tt (c .before .before .before .before .before .before .before .before .before .before .before .before .pre .length) .abs, lit< tt, lit≤ tt)
+
+-- src/fast.rt:48:13
+clamp-requires : tie.Need-clamp-requires
+clamp-requires c κs = search needs
+
+-- src/fast.rt:49:13
+near-requires : tie.Need-near-requires
+near-requires c κs = within-bits 2097152 tt tt (c .before .before .before .before .before .before .before .before .before .before .before .before .before .before .before .pre .start)
+
+-- src/fast.rt:50:22
+near-requires-2 : tie.Need-near-requires-2
+near-requires-2 c κs = within-bits 2097152 tt tt (c .before .before .before .before .before .before .before .before .before .before .before .before .before .before .before .before .before .pre .end)
+
+-- src/fast.rt:39:5
+returns : tie.Need-returns
+unfolding linearFast
+returns c =
+    let p = c .before .before .before .before .before .before .before .before .before .before .before .before .before .before .before .before .before .before .pre in
+    let a = c .before .before .before .before .before .before .before .before .before .before .before .before .before .before .before .before .before .before .args .t2 in
+    let x = heard₂ (fastAlong (getD a 0 nan)) (within-fits tt (p .from .x)) (within-fits tt (p .direction .x)) (c .before .before .before .before .before .before .before .before .before .before .before .before .before .fast-along .ensures) in
+    let y = heard₂ (fastAlong (getD a 1 nan)) (within-fits tt (p .from .y)) (within-fits tt (p .direction .y)) (c .before .before .before .before .before .before .before .before .before .before .fast-along2 .ensures) in
+    let z = heard₂ (fastAlong (getD a 2 nan)) (within-fits tt (p .from .z)) (within-fits tt (p .direction .z)) (c .before .before .before .before .before .before .before .fast-along3 .ensures) in
+    let l = heard (λ n. nearest n 1048576) (within-fits tt (p .length)) (c .before .before .before .before .before .nearest .ensures) in
+    let t = c .before .before .before .before .clamp .ensures ∙ (λ k. clamp (div binary64 (add binary64 (add binary64 (x k) (y k)) (z k)) (l k))) in
+    let s = heard near (within-fits tt (p .start)) (c .before .before .near .ensures) in
+    let e = heard near (within-fits tt (p .end)) (c .near2 .ensures) in
+    λ k. add binary64 (s k) (mul binary64 (t k) (sub binary64 (e k) (s k)))
+
+pub fast-spec : {M : Type 1} → statement M
+fast-spec =
+    tie.close
+    (tie.spec
+    array-read-fast-along
+    array-copy-out-fast-along
+    array-copy-out-fast-along-2
+    fast-along-requires
+    array-read-fast-along-2
+    array-copy-out-fast-along-3
+    array-copy-out-fast-along-4
+    fast-along-requires-2
+    array-read-fast-along-3
+    array-copy-out-fast-along-5
+    array-copy-out-fast-along-6
+    fast-along-requires-3
+    nearest-requires
+    clamp-requires
+    near-requires
+    near-requires-2
+    returns)

@@ -1,0 +1,70 @@
+-- By the definition, from the calls; each number is read back from its bits. Assumes nothing.
+use Rattle.grade.specs.Intervals.{unit, linearIntervals}
+use Rattle.interval.specs.Interval.{difference}
+use Rattle.interval.specs.Nearest.{fromRational}
+use lib.Dec.{lit<, lit≤}
+use mathlib.Core.Path.{_∙_, ap₂}
+use Rattle.exact.proofs.Size.{within-fits}
+use Rattle.exact.proofs.Signed.{heard, within-bits}
+use borrow.Author.Needs.{needs}
+use Rattle.grade.proofs.Linear.intervals.Statement.{statement}
+use Rattle.grade.proofs.Linear.intervals.Tie as tie
+use Rattle.grade.proofs.Linear.intervals.Reads as reads
+use Rattle.grade.proofs.Linear.intervals.Lts as lts
+use Rattle.grade.proofs.Linear.slopes.Reads as slopes-reads
+use Rattle.grade.proofs.intervals.unit.Reads as unit-reads
+use Rattle.grade.proofs.intervals.units.Reads as units-reads
+use Rattle.interval.proofs.Interval.from_rational.Reads as from-rational-reads
+use Rattle.interval.proofs.Interval.sub.Reads as sub-reads
+
+-- src/intervals.rt:61:13
+unit-requires : tie.Need-unit-requires
+unit-requires c κs = within-bits 2097152 tt tt (c .before .before .before .pre .start)
+
+-- src/intervals.rt:63:19
+units-requires : tie.Need-units-requires
+units-requires c κs = search needs
+
+-- src/intervals.rt:64:24
+units-requires-2 : tie.Need-units-requires-2
+units-requires-2 c κs = search needs
+
+-- src/intervals.rt:65:24
+from-rational-requires : tie.Need-from-rational-requires
+from-rational-requires c κs = (within-bits 9007199254740992 tt tt (c .before .before .before .before .before .before .before .pre .length) .abs, lit< tt, lit≤ tt)
+
+-- src/intervals.rt:67:19
+unit-requires-2 : tie.Need-unit-requires-2
+unit-requires-2 c κs = within-bits 2097152 tt tt (c .before .before .before .before .before .before .before .before .before .pre .end)
+
+-- src/intervals.rt:67:19
+sub-requires : tie.Need-sub-requires
+sub-requires c κs = search needs
+
+-- src/intervals.rt:68:20
+slopes-requires : tie.Need-slopes-requires
+slopes-requires c κs = search needs
+
+-- src/intervals.rt:55:5
+returns : tie.Need-returns
+unfolding linearIntervals
+returns c =
+    let p = c .before .before .before .before .before .before .before .before .before .before .before .before .pre in
+    let s = heard unit (within-fits tt (p .start)) (c .before .before .before .before .before .before .before .before .unit .ensures) in
+    let e = heard unit (within-fits tt (p .end)) (c .before .before .unit2 .ensures) in
+    let l = heard (λ z. fromRational z 1048576) (within-fits tt (p .length)) (c .before .before .before .before .from-rational .ensures) in
+    let r = c .before .sub .ensures ∙ ap₂ difference e s in
+    λ k. record { from = c .before .before .before .before .before .before .before .units .ensures k; direction = c .before .before .before .before .before .before .units2 .ensures k; «length_sq» = l k; start = s k; rise = r k; slope = c .slopes .ensures k }
+
+pub intervals-spec : {M : Type 1} → statement M
+intervals-spec =
+    tie.close
+    (tie.spec
+    unit-requires
+    units-requires
+    units-requires-2
+    from-rational-requires
+    unit-requires-2
+    sub-requires
+    slopes-requires
+    returns)

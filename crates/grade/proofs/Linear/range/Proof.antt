@@ -1,0 +1,61 @@
+-- The two corners, their levels, in order. Assumes nothing.
+use Rattle.grade.proofs.Sizes.{at-corner-within, level-within}
+use Rattle.grade.specs.Exact.{levelOver, boundsOf, linearRange}
+use mathlib.Core.Path.{_∙_, ap}
+use Rattle.exact.proofs.Signed.{is, got, bit, asked}
+use borrow.Author.Needs.{needs}
+use Rattle.grade.proofs.Linear.range.Statement.{statement}
+use Rattle.grade.proofs.Linear.range.Tie as tie
+use Rattle.grade.proofs.Linear.range.Reads as reads
+use Rattle.grade.proofs.Linear.range.Lts as lts
+use Rattle.grade.proofs.Linear.at_corner.Reads as at-corner-reads
+use Rattle.grade.proofs.Linear.level_over.Reads as level-over-reads
+use Rattle.grade.proofs.ramp.ordered.Reads as ordered-reads
+
+-- src/ramp.rt:99:33
+at-corner-requires : tie.Need-at-corner-requires
+at-corner-requires c κs = search needs
+
+-- src/ramp.rt:99:13
+level-over-requires : tie.Need-level-over-requires
+level-over-requires c κs =
+    let p = c .before .pre in
+    (p .0, asked tt (bit tt (got (c .at-corner .ensures) (at-corner-within (c .before .args .self) (p .0) (p .1 .0) (p .1 .1)))))
+
+-- src/ramp.rt:100:33
+at-corner-requires-2 : tie.Need-at-corner-requires-2
+at-corner-requires-2 c κs = search needs
+
+-- src/ramp.rt:100:13
+level-over-requires-2 : tie.Need-level-over-requires-2
+level-over-requires-2 c κs =
+    let p = c .before .before .before .pre in
+    (p .0, asked tt (bit tt (got (c .at-corner2 .ensures) (at-corner-within (c .before .before .before .args .self) (p .0) (p .1 .1) (p .1 .0)))))
+
+-- src/ramp.rt:101:9
+ordered-requires : tie.Need-ordered-requires
+ordered-requires c κs = search needs
+
+-- src/ramp.rt:95:5
+returns : tie.Need-returns
+unfolding linearRange
+returns c =
+    let g = c .before .before .before .before .before .before .args .self in
+    let p = c .before .before .before .before .before .before .pre in
+    let t = bit tt (got (c .before .before .before .before .before .at-corner .ensures) (at-corner-within g (p .0) (p .1 .0) (p .1 .1))) in
+    let u = bit tt (got (c .before .before .before .at-corner2 .ensures) (at-corner-within g (p .0) (p .1 .1) (p .1 .0))) in
+    let a = bit tt (got (c .before .before .before .before .level-over .ensures ∙ ap (levelOver g) (t .same)) (level-within g (p .0) (t .within))) in
+    let b = bit tt (got (c .before .before .level-over2 .ensures ∙ ap (levelOver g) (u .same)) (level-within g (p .0) (u .within))) in
+    let l = bit tt (is (p .0 .length)) in
+    c .ordered .ensures ∙ (λ k. boundsOf (a .same k) (b .same k) (l .same k))
+
+pub range-spec : {M : Type 1} → statement M
+range-spec =
+    tie.close
+    (tie.spec
+    at-corner-requires
+    level-over-requires
+    at-corner-requires-2
+    level-over-requires-2
+    ordered-requires
+    returns)

@@ -1,0 +1,28 @@
+-- The difference of two counts fits. Assumes nothing.
+use Rattle.grade.proofs.Sizes.{size-within}
+use Rattle.grade.specs.Certified.{size, rise}
+use mathlib.Core.Path.{_∙_, ap}
+use Rattle.exact.proofs.Signed.{is, got, fits, bit, sub, asked}
+use Rattle.grade.proofs.Linear.rise.Statement.{statement}
+use Rattle.grade.proofs.Linear.rise.Tie as tie
+use Rattle.grade.proofs.Linear.rise.Reads as reads
+use Rattle.grade.proofs.Linear.rise.Lts as lts
+use Rattle.grade.proofs.certified.size.Reads as size-reads
+
+-- src/certified.rt:74:14
+sub-size : tie.Need-sub-size
+sub-size c = fits tt (sub (bit tt (is (c .before .before .pre .end))) (bit tt (is (c .before .before .pre .start))))
+
+-- src/certified.rt:74:9
+size-requires : tie.Need-size-requires
+size-requires c κs = asked tt (bit tt (sub (bit tt (is (c .before .before .pre .end))) (bit tt (is (c .before .before .pre .start)))))
+
+-- src/certified.rt:70:5
+returns : tie.Need-returns
+unfolding rise
+returns c =
+    let d = bit tt (sub (bit tt (is (c .before .before .before .pre .end))) (bit tt (is (c .before .before .before .pre .start)))) in
+    bit tt (got (c .size .ensures ∙ ap size (d .same)) (size-within (d .within))) .same
+
+pub rise-spec : {M : Type 1} → statement M
+rise-spec = tie.close (tie.spec sub-size size-requires returns)

@@ -1,0 +1,62 @@
+-- The numerator is at most 2^34 in size, and L is above 0. Assumes nothing.
+use Rattle.grade.proofs.Sizes.{size-above}
+use Rattle.interval.specs.Nearest.{fromRational}
+use Rattle.exact.proofs.IntegerOrder.{<ℤ-le}
+use lib.Signed.{_<ℤ_, nonNeg, yes-nonNeg}
+use lib.IntN.{ℤ, pos, negsuc, natAbs}
+use lib.Dec.{T, lit≤, ltb→lt}
+use native.Mathlib.Omega.{arith}
+use native.Mathlib.Nat.{le-trans}
+use Prim.Native.Nat.{ℕ, suc, _≤_, _<_}
+use mathlib.Core.Path.{_∙_, subst⁻¹}
+use Rattle.exact.proofs.Signed.{is, fits, bit, sub, mul, asked}
+use Rattle.grade.proofs.Linear.slope_along.Statement.{statement}
+use Rattle.grade.proofs.Linear.slope_along.Tie as tie
+use Rattle.grade.proofs.Linear.slope_along.Reads as reads
+use Rattle.grade.proofs.Linear.slope_along.Lts as lts
+use Rattle.interval.proofs.Interval.from_rational.Reads as from-rational-reads
+
+
+suc-le : {m n : ℕ} → m ≤ n → suc m ≤ suc n
+suc-le h = omega arith
+
+-- src/intervals.rt:41:38
+sub-from-rational : tie.Need-sub-from-rational
+sub-from-rational c = fits tt (sub (bit tt (is (c .before .before .pre .0 .end))) (bit tt (is (c .before .before .pre .0 .start))))
+
+-- src/intervals.rt:41:33
+mul-from-rational : tie.Need-mul-from-rational
+mul-from-rational c = fits tt (mul (bit tt (is (c .before .before .pre .1))) (bit tt (sub (bit tt (is (c .before .before .pre .0 .end))) (bit tt (is (c .before .before .pre .0 .start))))))
+
+-- src/intervals.rt:41:62
+cast-from-rational : tie.Need-cast-from-rational
+cast-from-rational c =
+    let p = c .before .before .before .before .pre .0 in
+    let l = bit tt (is (p .length)) .same in
+    (subst⁻¹ (λ (z : ℤ). T (nonNeg z)) l (yes-nonNeg (<ℤ-le (p .apart))), record { fits = le-trans (suc-le (asked {n = 13194139533312} tt (bit tt (is (p .length))) .abs)) (lit≤ tt) })
+
+-- src/intervals.rt:41:9
+from-rational-requires : tie.Need-from-rational-requires
+from-rational-requires c κs =
+    let p = c .before .before .before .before .pre .0 in
+    let n = bit tt (mul (bit tt (is (c .before .before .before .before .pre .1))) (bit tt (sub (bit tt (is (p .end))) (bit tt (is (p .start)))))) in
+    let l = bit tt (is (p .length)) in
+    (asked tt n .abs, subst⁻¹ (λ (z : ℤ). 0 < natAbs z) (l .same) (size-above (p .apart)), asked tt l .abs)
+
+-- src/intervals.rt:37:5
+returns : tie.Need-returns
+returns c =
+    let p = c .before .before .before .before .before .pre .0 in
+    let n = bit tt (mul (bit tt (is (c .before .before .before .before .before .pre .1))) (bit tt (sub (bit tt (is (p .end))) (bit tt (is (p .start)))))) in
+    let l = bit tt (is (p .length)) in
+    c .from-rational .ensures ∙ (λ k. fromRational (n .same k) (natAbs (l .same k)))
+
+pub slope-along-spec : {M : Type 1} → statement M
+slope-along-spec =
+    tie.close
+    (tie.spec
+    sub-from-rational
+    mul-from-rational
+    cast-from-rational
+    from-rational-requires
+    returns)

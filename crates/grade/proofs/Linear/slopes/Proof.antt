@@ -1,0 +1,57 @@
+-- Each entry is read back from its bits. Assumes nothing.
+use Rattle.grade.specs.Intervals.{slopeAlong}
+use mathlib.Core.List.{[], _∷_}
+use Rattle.exact.proofs.Size.{within-fits}
+use Rattle.exact.proofs.Signed.{heard}
+use borrow.Author.Needs.{needs}
+use Rattle.grade.proofs.Linear.slopes.Statement.{statement}
+use Rattle.grade.proofs.Linear.slopes.Tie as tie
+use Rattle.grade.proofs.Linear.slopes.Reads as reads
+use Rattle.grade.proofs.Linear.slopes.Lts as lts
+use Rattle.grade.proofs.Linear.slope_along.Reads as slope-along-reads
+
+-- src/intervals.rt:49:34
+array-copy-out-slope-along : tie.Need-array-copy-out-slope-along
+array-copy-out-slope-along c = search needs
+
+-- src/intervals.rt:49:13
+slope-along-requires : tie.Need-slope-along-requires
+slope-along-requires c κs = search needs
+
+-- src/intervals.rt:50:34
+array-copy-out-slope-along-2 : tie.Need-array-copy-out-slope-along-2
+array-copy-out-slope-along-2 c = search needs
+
+-- src/intervals.rt:50:13
+slope-along-requires-2 : tie.Need-slope-along-requires-2
+slope-along-requires-2 c κs = search needs
+
+-- src/intervals.rt:51:34
+array-copy-out-slope-along-3 : tie.Need-array-copy-out-slope-along-3
+array-copy-out-slope-along-3 c = search needs
+
+-- src/intervals.rt:51:13
+slope-along-requires-3 : tie.Need-slope-along-requires-3
+slope-along-requires-3 c κs = search needs
+
+-- src/intervals.rt:44:5
+returns : tie.Need-returns
+returns c =
+    let g = c .before .before .before .before .before .before .before .args .self in
+    let p = c .before .before .before .before .before .before .before .pre .direction in
+    let x = heard (slopeAlong g) (within-fits tt (p .x)) (c .before .before .before .before .slope-along .ensures) in
+    let y = heard (slopeAlong g) (within-fits tt (p .y)) (c .before .before .slope-along2 .ensures) in
+    let z = heard (slopeAlong g) (within-fits tt (p .z)) (c .slope-along3 .ensures) in
+    λ k. x k ∷ y k ∷ z k ∷ []
+
+pub slopes-spec : {M : Type 1} → statement M
+slopes-spec =
+    tie.close
+    (tie.spec
+    array-copy-out-slope-along
+    slope-along-requires
+    array-copy-out-slope-along-2
+    slope-along-requires-2
+    array-copy-out-slope-along-3
+    slope-along-requires-3
+    returns)

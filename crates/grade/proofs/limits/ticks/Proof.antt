@@ -1,0 +1,56 @@
+use Rattle.grade.specs.Grade.{at}
+-- Each entry is read back from its bits. Assumes nothing.
+use mathlib.Core.Bool.{_&&_}
+use Rattle.grade.specs.Grade.{tick}
+use Rattle.exact.proofs.Signed.{heard}
+use borrow.Author.Needs.{needs}
+use Rattle.grade.proofs.limits.ticks.Statement.{statement}
+use Rattle.grade.proofs.limits.ticks.Tie as tie
+use Rattle.grade.proofs.limits.ticks.Reads as reads
+use Rattle.grade.proofs.limits.ticks.Lts as lts
+use Rattle.grade.proofs.limits.tick.Reads as tick-reads
+
+-- src/limits.rt:21:10
+array-copy-out-tick : tie.Need-array-copy-out-tick
+array-copy-out-tick c = search needs
+
+-- src/limits.rt:21:5
+tick-requires : tie.Need-tick-requires
+tick-requires c κs = search needs
+
+-- src/limits.rt:21:23
+array-copy-out-tick-2 : tie.Need-array-copy-out-tick-2
+array-copy-out-tick-2 c = search needs
+
+-- src/limits.rt:21:18
+tick-requires-2 : tie.Need-tick-requires-2
+tick-requires-2 c κs = search needs
+
+-- src/limits.rt:21:36
+array-copy-out-tick-3 : tie.Need-array-copy-out-tick-3
+array-copy-out-tick-3 c = search needs
+
+-- src/limits.rt:21:31
+tick-requires-3 : tie.Need-tick-requires-3
+tick-requires-3 c κs = search needs
+
+-- src/limits.rt:18:1
+returns : tie.Need-returns
+returns c =
+    let v = c .before .before .before .before .before .before .args .t1 in
+    let x = heard tick {x = at v 0} (record { sfits = c .before .before .before .before .before .tick-arg .given }) (c .before .before .before .before .tick .ensures) in
+    let y = heard tick {x = at v 1} (record { sfits = c .before .before .before .tick-arg2 .given }) (c .before .before .tick2 .ensures) in
+    let z = heard tick {x = at v 2} (record { sfits = c .before .tick-arg3 .given }) (c .tick3 .ensures) in
+    λ k. x k && y k && z k
+
+pub ticks-spec : {M : Type 1} → statement M
+ticks-spec =
+    tie.close
+    (tie.spec
+    array-copy-out-tick
+    tick-requires
+    array-copy-out-tick-2
+    tick-requires-2
+    array-copy-out-tick-3
+    tick-requires-3
+    returns)

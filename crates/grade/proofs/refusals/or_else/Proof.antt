@@ -1,0 +1,17 @@
+use borrow.Author.Tests.{ne-eqb}
+-- By the test. Assumes nothing.
+use Rattle.grade.proofs.refusals.or_else.Statement.{statement}
+use Rattle.grade.proofs.refusals.or_else.Tie as tie
+use Rattle.grade.proofs.refusals.or_else.Reads as reads
+use Rattle.grade.proofs.refusals.or_else.Lts as lts
+
+-- src/refusals.rt:16:1
+returns : tie.Need-returns
+returns c = simp (c .if1 .taken)
+
+-- src/refusals.rt:16:1
+returns-2 : tie.Need-returns-2
+returns-2 c = simp (ne-eqb _ _ (c .if1 .left))
+
+pub or-else-spec : {M : Type 1} → statement M
+or-else-spec = tie.close (tie.spec returns returns-2)

@@ -1,0 +1,102 @@
+use Rattle.grade.specs.Grade.{at}
+-- Each entry of the corner is an entry of the box, read back from its bits. Assumes nothing.
+use Rattle.grade.specs.Exact.{toward, corner}
+use Rattle.exact.proofs.Choice.{choose}
+use mir.Val.{toZ, ofZ, SFits}
+use mir.Syntax.{w64}
+use lib.Signed.{ltZ}
+use lib.IntN.{ℤ, pos}
+use mathlib.Core.List.{[], _∷_}
+use mathlib.Core.Path.{_≡_, _∙_, subst⁻¹}
+use Rattle.exact.proofs.Signed.{back}
+use borrow.Author.Needs.{needs}
+use Rattle.grade.proofs.vector.corner.Statement.{statement}
+use Rattle.grade.proofs.vector.corner.Tie as tie
+use Rattle.grade.proofs.vector.corner.Reads as reads
+use Rattle.grade.proofs.vector.corner.Lts as lts
+use Rattle.grade.proofs.vector.toward.Reads as toward-reads
+
+
+picked : (d a b : ℤ) {r : ℤ} → SFits w64 d → SFits w64 a → SFits w64 b → r ≡ toward (toZ w64 (ofZ w64 d)) (toZ w64 (ofZ w64 a)) (toZ w64 (ofZ w64 b)) → toZ w64 (ofZ w64 r) ≡ toward d a b
+picked d a b {r} fd fa fb e = back (subst⁻¹ (SFits w64) same (choose (ltZ (pos 0) d) a b (SFits w64) (λ _. fa) (λ _. fb))) ∙ same
+  where
+    same : r ≡ toward d a b
+    same = e ∙ (λ k. toward (back fd k) (back fa k) (back fb k))
+
+-- src/vector.rt:32:20
+array-copy-out-toward : tie.Need-array-copy-out-toward
+array-copy-out-toward c = search needs
+
+-- src/vector.rt:32:26
+array-copy-out-toward-2 : tie.Need-array-copy-out-toward-2
+array-copy-out-toward-2 c = search needs
+
+-- src/vector.rt:32:32
+array-copy-out-toward-3 : tie.Need-array-copy-out-toward-3
+array-copy-out-toward-3 c = search needs
+
+-- src/vector.rt:32:9
+toward-requires : tie.Need-toward-requires
+toward-requires c κs = search needs
+
+-- src/vector.rt:33:20
+array-copy-out-toward-4 : tie.Need-array-copy-out-toward-4
+array-copy-out-toward-4 c = search needs
+
+-- src/vector.rt:33:26
+array-copy-out-toward-5 : tie.Need-array-copy-out-toward-5
+array-copy-out-toward-5 c = search needs
+
+-- src/vector.rt:33:32
+array-copy-out-toward-6 : tie.Need-array-copy-out-toward-6
+array-copy-out-toward-6 c = search needs
+
+-- src/vector.rt:33:9
+toward-requires-2 : tie.Need-toward-requires-2
+toward-requires-2 c κs = search needs
+
+-- src/vector.rt:34:20
+array-copy-out-toward-7 : tie.Need-array-copy-out-toward-7
+array-copy-out-toward-7 c = search needs
+
+-- src/vector.rt:34:26
+array-copy-out-toward-8 : tie.Need-array-copy-out-toward-8
+array-copy-out-toward-8 c = search needs
+
+-- src/vector.rt:34:32
+array-copy-out-toward-9 : tie.Need-array-copy-out-toward-9
+array-copy-out-toward-9 c = search needs
+
+-- src/vector.rt:34:9
+toward-requires-3 : tie.Need-toward-requires-3
+toward-requires-3 c κs = search needs
+
+-- src/vector.rt:29:1
+returns : tie.Need-returns
+unfolding corner
+returns c =
+    let d = c .before .before .before .before .before .before .before .before .before .before .before .before .args .t1 in
+    let a = c .before .before .before .before .before .before .before .before .before .before .before .before .args .t2 in
+    let b = c .before .before .before .before .before .before .before .before .before .before .before .before .args .t3 in
+    let x = picked (at d 0) (at a 0) (at b 0) (record { sfits = c .before .before .before .before .before .before .before .before .before .before .before .toward-arg .given }) (record { sfits = c .before .before .before .before .before .before .before .before .before .before .toward-arg2 .given }) (record { sfits = c .before .before .before .before .before .before .before .before .before .toward-arg3 .given }) (c .before .before .before .before .before .before .before .before .toward .ensures) in
+    let y = picked (at d 1) (at a 1) (at b 1) (record { sfits = c .before .before .before .before .before .before .before .toward-arg4 .given }) (record { sfits = c .before .before .before .before .before .before .toward-arg5 .given }) (record { sfits = c .before .before .before .before .before .toward-arg6 .given }) (c .before .before .before .before .toward2 .ensures) in
+    let z = picked (at d 2) (at a 2) (at b 2) (record { sfits = c .before .before .before .toward-arg7 .given }) (record { sfits = c .before .before .toward-arg8 .given }) (record { sfits = c .before .toward-arg9 .given }) (c .toward3 .ensures) in
+    λ k. x k ∷ y k ∷ z k ∷ []
+
+pub corner-spec : {M : Type 1} → statement M
+corner-spec =
+    tie.close
+    (tie.spec
+    array-copy-out-toward
+    array-copy-out-toward-2
+    array-copy-out-toward-3
+    toward-requires
+    array-copy-out-toward-4
+    array-copy-out-toward-5
+    array-copy-out-toward-6
+    toward-requires-2
+    array-copy-out-toward-7
+    array-copy-out-toward-8
+    array-copy-out-toward-9
+    toward-requires-3
+    returns)

@@ -1,0 +1,13 @@
+-- Equal bits are equal numbers. Assumes nothing.
+use Rattle.exact.proofs.Signed.{equal-bits}
+use Rattle.grade.proofs.vector.equal.Statement.{statement}
+use Rattle.grade.proofs.vector.equal.Tie as tie
+use Rattle.grade.proofs.vector.equal.Reads as reads
+use Rattle.grade.proofs.vector.equal.Lts as lts
+
+-- src/vector.rt:38:1
+returns : tie.Need-returns
+returns c = equal-bits (c .fits .a) (c .fits .b)
+
+pub equal-spec : {M : Type 1} → statement M
+equal-spec = tie.close (tie.spec returns)

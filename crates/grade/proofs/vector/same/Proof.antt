@@ -1,0 +1,71 @@
+-- Each entry is read back from its bits. Assumes nothing.
+use mathlib.Core.Bool.{_&&_}
+use Rattle.grade.specs.Grade.{at, eqZ}
+use Rattle.exact.proofs.Signed.{heard₂}
+use borrow.Author.Needs.{needs}
+use Rattle.grade.proofs.vector.same.Statement.{statement}
+use Rattle.grade.proofs.vector.same.Tie as tie
+use Rattle.grade.proofs.vector.same.Reads as reads
+use Rattle.grade.proofs.vector.same.Lts as lts
+use Rattle.grade.proofs.vector.equal.Reads as equal-reads
+
+-- src/vector.rt:47:11
+array-copy-out-equal : tie.Need-array-copy-out-equal
+array-copy-out-equal c = search needs
+
+-- src/vector.rt:47:17
+array-copy-out-equal-2 : tie.Need-array-copy-out-equal-2
+array-copy-out-equal-2 c = search needs
+
+-- src/vector.rt:47:5
+equal-requires : tie.Need-equal-requires
+equal-requires c κs = search needs
+
+-- src/vector.rt:47:31
+array-copy-out-equal-3 : tie.Need-array-copy-out-equal-3
+array-copy-out-equal-3 c = search needs
+
+-- src/vector.rt:47:37
+array-copy-out-equal-4 : tie.Need-array-copy-out-equal-4
+array-copy-out-equal-4 c = search needs
+
+-- src/vector.rt:47:25
+equal-requires-2 : tie.Need-equal-requires-2
+equal-requires-2 c κs = search needs
+
+-- src/vector.rt:47:51
+array-copy-out-equal-5 : tie.Need-array-copy-out-equal-5
+array-copy-out-equal-5 c = search needs
+
+-- src/vector.rt:47:57
+array-copy-out-equal-6 : tie.Need-array-copy-out-equal-6
+array-copy-out-equal-6 c = search needs
+
+-- src/vector.rt:47:45
+equal-requires-3 : tie.Need-equal-requires-3
+equal-requires-3 c κs = search needs
+
+-- src/vector.rt:44:1
+returns : tie.Need-returns
+returns c =
+    let a = c .before .before .before .before .before .before .before .before .before .args .t1 in
+    let b = c .before .before .before .before .before .before .before .before .before .args .t2 in
+    let x = heard₂ eqZ {x = at a 0} {y = at b 0} (record { sfits = c .before .before .before .before .before .before .before .before .equal-arg .given }) (record { sfits = c .before .before .before .before .before .before .before .equal-arg2 .given }) (c .before .before .before .before .before .before .equal .ensures) in
+    let y = heard₂ eqZ {x = at a 1} {y = at b 1} (record { sfits = c .before .before .before .before .before .equal-arg3 .given }) (record { sfits = c .before .before .before .before .equal-arg4 .given }) (c .before .before .before .equal2 .ensures) in
+    let z = heard₂ eqZ {x = at a 2} {y = at b 2} (record { sfits = c .before .before .equal-arg5 .given }) (record { sfits = c .before .equal-arg6 .given }) (c .equal3 .ensures) in
+    λ k. x k && y k && z k
+
+pub same-spec : {M : Type 1} → statement M
+same-spec =
+    tie.close
+    (tie.spec
+    array-copy-out-equal
+    array-copy-out-equal-2
+    equal-requires
+    array-copy-out-equal-3
+    array-copy-out-equal-4
+    equal-requires-2
+    array-copy-out-equal-5
+    array-copy-out-equal-6
+    equal-requires-3
+    returns)
