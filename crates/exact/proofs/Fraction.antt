@@ -3,10 +3,11 @@ use mathlib.Core.Path.{_≡_, refl, sym, ap, _∙_, subst, subst₂}
 use mathlib.Core.Logic.{_⊎_, inl, inr}
 use mathlib.Core.List.{[], _∷_}
 use Prim.Native.Nat.{ℕ, suc, _*_, _<_}
-use lib.Dec.{lt→ltb}
+use native.Mathlib.Nat as NatL
+use lib.Dec.{lt→ltb, lit<}
 use lib.IntN.{ℤ, pos, negsuc, negℤ, _+ℤ_, _-ℤ_, _*ℤ_, *ℤ-comm, zero-*ℤ}
 use lib.Signed.{_≤ℤ_, _<ℤ_, ltZ-yes, leZ-yes, ≤ℤ-refl, <ℤ-≤ℤ-trans, <ℤ-irrefl}
-use Rattle.exact.specs.Fraction.{Fraction, denZ, ratio, whole, zeroF, _+F_, _-F_, _*F_, _/F_, negF, _≤F_, _<F_, _≈F_}
+use Rattle.exact.specs.Fraction.{Fraction, denZ, ratio, whole, zeroF, oneF, _+F_, _-F_, _*F_, _/F_, negF, _≤F_, _<F_, _≈F_}
 use Rattle.exact.proofs.Integer.{one-*ℤ, neg-*ℤ}
 use Rattle.exact.proofs.IntegerOrder.{≤ℤ-trans, ≤ℤ-<ℤ-trans, <ℤ-le, ≤ℤ-antisym, le-or-lt, add-mono, neg-mono-lt, mul-mono, mul-mono-lt, mul-anti, mul-nonneg, mul-cancel-le, mul-cancel-lt}
 use Rattle.exact.proofs.Ring.{lit, _⊕_, _⊖_, _⊗_, ⊝_, ring}
@@ -210,10 +211,41 @@ over-is a {n = suc n} N = record { eq = ring 2 (λ z d. z ⊗ d) (λ z d. z ⊗ 
 pub over-mono : {a b : Fraction} {n : ℕ} → 0 < n → a ≤F b → a /F n ≤F b /F n
 over-mono {a} {b} {n} N h = ≤F-trans (≈F-le (≈F-trans (over-is a N) (commF a (ratio (pos 1) n N)))) (≤F-trans (mul-monoF (ratio (pos 1) n N) (leZ-yes tt) h) (≈F-ge (≈F-trans (over-is b N) (commF b (ratio (pos 1) n N)))))
 
+pub over-cong : {a b : Fraction} {n : ℕ} → 0 < n → a ≈F b → a /F n ≈F b /F n
+over-cong N e = ≤F-antisym (over-mono N (≈F-le e)) (over-mono N (≈F-ge e))
+
+pub over-self : {n : ℕ} → 0 < n → whole (pos n) /F n ≈F oneF
+unfolding _/F_
+over-self {n = suc n} N = record { eq = ring 1 (λ n. n ⊗ lit (pos 1)) (λ n. lit (pos 1) ⊗ (lit (pos 1) ⊗ n)) tt (pos (suc n) ∷ []) }
+
+pub over-zero : {n : ℕ} → 0 < n → zeroF /F n ≈F zeroF
+over-zero {n} N = ≈F-trans (over-is zeroF N) (ringF 1 (λ o. lit (pos 0) ⊗ o) (λ o. lit (pos 0)) tt (ratio (pos 1) n N ∷ []))
+
+pub over-one : (a : Fraction) → a /F 1 ≈F a
+over-one a = ≈F-trans (over-is a (lit< tt)) (ringF 1 (λ a. a ⊗ lit (pos 1)) (λ a. a) tt (a ∷ []))
+
+pub over-add : (a b : Fraction) {n : ℕ} → 0 < n → (a +F b) /F n ≈F a /F n +F b /F n
+over-add a b {n} N = ≈F-trans (over-is (a +F b) N) (≈F-trans (ringF 3 (λ a b o. (a ⊕ b) ⊗ o) (λ a b o. a ⊗ o ⊕ b ⊗ o) tt (a ∷ b ∷ ratio (pos 1) n N ∷ [])) (add-congF (≈F-sym (over-is a N)) (≈F-sym (over-is b N))))
+
+pub over-sub : (a b : Fraction) {n : ℕ} → 0 < n → (a -F b) /F n ≈F a /F n -F b /F n
+over-sub a b {n} N = ≈F-trans (over-is (a -F b) N) (≈F-trans (ringF 3 (λ a b o. (a ⊖ b) ⊗ o) (λ a b o. a ⊗ o ⊖ b ⊗ o) tt (a ∷ b ∷ ratio (pos 1) n N ∷ [])) (sub-congF (≈F-sym (over-is a N)) (≈F-sym (over-is b N))))
+
+pub over-mul : (a b : Fraction) {n : ℕ} → 0 < n → (a *F b) /F n ≈F a /F n *F b
+over-mul a b {n} N = ≈F-trans (over-is (a *F b) N) (≈F-trans (ringF 3 (λ a b o. a ⊗ b ⊗ o) (λ a b o. a ⊗ o ⊗ b) tt (a ∷ b ∷ ratio (pos 1) n N ∷ [])) (mul-congF (≈F-sym (over-is a N)) (≈F-refl b)))
+
+pub over-product : (a b : Fraction) {m n : ℕ} → 0 < m → 0 < n → a /F m *F (b /F n) ≈F (a *F b) /F (m * n)
+over-product a b {m} {n} M N = ≈F-trans (mul-congF (over-is a M) (over-is b N))
+    (≈F-trans (ringF 4 (λ a b o u. a ⊗ o ⊗ (b ⊗ u)) (λ a b o u. a ⊗ b ⊗ (o ⊗ u)) tt (a ∷ b ∷ ratio (pos 1) m M ∷ ratio (pos 1) n N ∷ []))
+    (≈F-trans (mul-congF (≈F-refl (a *F b)) (mul-ratio (ratio (pos 1) m M) (ratio (pos 1) n N) (NatL.mul-pos M N))) (≈F-sym (over-is (a *F b) (NatL.mul-pos M N)))))
+
 -- over n and times n again
 pub over-times : (a : Fraction) {n : ℕ} → 0 < n → a /F n *F whole (pos n) ≈F a
 unfolding _/F_ _*F_
 over-times a {n = suc n} N = record { eq = ring 3 (λ z d n. z ⊗ n ⊗ d) (λ z d n. z ⊗ (d ⊗ n ⊗ lit (pos 1))) tt (a .num ∷ denZ a ∷ pos (suc n) ∷ []) }
+
+pub over-whole : (z : ℤ) {n : ℕ} (N : 0 < n) → whole z /F n ≈F ratio z n N
+unfolding _/F_
+over-whole z {n = suc n} N = record { eq = ring 2 (λ z n. z ⊗ n) (λ z n. z ⊗ (lit (pos 1) ⊗ n)) tt (z ∷ pos (suc n) ∷ []) }
 
 -- ---- whole numbers among the fractions
 pub whole-le : {z w : ℤ} → z ≤ℤ w → whole z ≤F whole w

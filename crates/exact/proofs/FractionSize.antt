@@ -128,3 +128,6 @@ unfolding heldF
 held-mono {s} {t} l h = min-one (maxF t zeroF) l (λ x. minF (maxF s zeroF) l ≤F x)
     (≤F-trans (min-left (maxF s zeroF) l) (max-one s zeroF (λ x. x ≤F maxF t zeroF) (≤F-trans h (max-left t zeroF)) (max-right t zeroF)))
     (min-right (maxF s zeroF) l)
+
+pub held-cong : {s t : Fraction} (l : Fraction) → s ≈F t → heldF s l ≈F heldF t l
+held-cong l e = ≤F-antisym (held-mono l (≈F-le e)) (held-mono l (≈F-ge e))

@@ -16,10 +16,10 @@ use Rattle.grade.specs.declared.Grade.{Grade}
 use Rattle.grade.specs.declared.GradeDef.{GradeDef}
 use Rattle.grade.specs.declared.LevelKind.{LevelKind}
 use Rattle.grade.specs.Grade.{at, ticks, inLimits, eqZ, isLinear, minus, dot, direction, lengthSq}
-use Rattle.grade.specs.Exact.{linearOf, constantDef, compiled}
+use Rattle.grade.specs.Exact.{linearOf, numbers, constantDef, compiled}
 use Rattle.grade.specs.Refusals.{refused, _orElse_, above, same, isDistance, coincident, rangeRefusal}
 use Rattle.grade.specs.Fits.{Within3, InLimits, LinearFits, DefFits}
-use Rattle.grade.proofs.Entries.{both, ticks-within, sizes}
+use Rattle.grade.proofs.Entries.{both, ticks-within, Sizes, sizes}
 use Rattle.grade.proofs.Sizes.{minus-within, dot-within}
 
 -- ---- no refusal
@@ -103,23 +103,28 @@ linear-apart g l t = anchors-apart (g .from) (g .to) (go (isLinear g) (same (g .
     go true c s t = t
     go false c s t = absurd s
 
+-- a fact of the compiled grade, from the two kinds that it may have
+pub by-kind : (g : Grade) (P : GradeDef → Type 0) → (T (isLinear g) → P (record { kind = LevelKind.Linear; linear = numbers g })) → (T (not (isLinear g && not (eqZ (g .start) (g .end)))) → P (constantDef (g .start))) → P (compiled g)
+unfolding compiled
+by-kind g P linear flat = choose (isLinear g && not (eqZ (g .start) (g .end))) (record { kind = LevelKind.Linear; linear = numbers g }) (constantDef (g .start)) P
+    (λ u. linear (both (isLinear g) (not (eqZ (g .start) (g .end))) u .0)) flat
+
 -- ---- so the compiled grade fits
 zero3 : (n : ℕ) → Within3 n (pos 0 ∷ pos 0 ∷ pos 0 ∷ [])
 zero3 n = record { x = within-zero n; y = within-zero n; z = within-zero n }
 
 pub compiled-fits : (g : Grade) → InLimits g → T (not (coincident g)) → DefFits (compiled g)
-unfolding compiled linearOf constantDef
-compiled-fits g i t = choose (isLinear g && not (eqZ (g .start) (g .end))) _ _ DefFits linear (λ _. constant)
+unfolding linearOf constantDef
+compiled-fits g i t = by-kind g DefFits
+    (λ l. record { linear = record {
+      from = s .from;
+      direction = minus-within (s .to) (s .from);
+      length = dot-within (minus-within (s .to) (s .from)) (minus-within (s .to) (s .from));
+      apart = linear-apart g l t;
+      start = s .start;
+      end = s .end;
+    } })
+    (λ _. record { linear = record { from = zero3 1048576; direction = zero3 2097152; length = record { abs = lit≤ tt }; apart = ltZ-yes tt; start = s .start; end = s .start } })
   where
-    linear : T (isLinear g && not (eqZ (g .start) (g .end))) → DefFits (record { kind = LevelKind.Linear; linear = linearOf (g .from) (g .to) (g .start) (g .end) })
-    linear u = record { linear = record {
-      from = sizes g i .from;
-      direction = minus-within (sizes g i .to) (sizes g i .from);
-      length = dot-within (minus-within (sizes g i .to) (sizes g i .from)) (minus-within (sizes g i .to) (sizes g i .from));
-      apart = linear-apart g (both (isLinear g) (not (eqZ (g .start) (g .end))) u .0) t;
-      start = sizes g i .start;
-      end = sizes g i .end;
-    } }
-
-    constant : DefFits (constantDef (g .start))
-    constant = record { linear = record { from = zero3 1048576; direction = zero3 2097152; length = record { abs = lit≤ tt }; apart = ltZ-yes tt; start = sizes g i .start; end = sizes g i .start } }
+    s : Sizes g
+    s = sizes g i

@@ -18,6 +18,9 @@ use Rattle.grade.specs.Grade.{at, eqZ, isLinear, minus, dot, direction, 
 unfoldable pub linearOf : List ℤ → List ℤ → ℤ → ℤ → Linear
 linearOf from to start end = record { from = from; direction = minus to from; «length_sq» = dot (minus to from) (minus to from); start = start; end = end }
 
+abbrev pub numbers : Grade → Linear
+numbers g = linearOf (g .from) (g .to) (g .start) (g .end)
+
 -- a constant, which has no anchors
 unfoldable pub constantDef : ℤ → GradeDef
 constantDef c = record {
@@ -29,7 +32,7 @@ constantDef c = record {
 unfoldable pub compiled : Grade → GradeDef
 compiled g =
     cond (isLinear g && not (eqZ (g .start) (g .end)))
-    (record { kind = LevelKind.Linear; linear = linearOf (g .from) (g .to) (g .start) (g .end) })
+    (record { kind = LevelKind.Linear; linear = numbers g })
     (constantDef (g .start))
 
 -- ---- t's numerator over a box

@@ -6,4 +6,5 @@ pub mod Certified
 pub mod Intervals
 pub mod Fast
 pub mod Calls
+pub mod Holds
 pub mod Fits

@@ -4,10 +4,10 @@ use mathlib.Core.Path.{refl, sym, subst}
 use mathlib.Core.Bool.{Bool, true, false, not, cond}
 use Prim.Native.Nat.{ℕ, max}
 use native.Mathlib.Nat.{le-max-left, le-max-right, max-zero}
-use lib.Dec.{T, lit≤}
+use lib.Dec.{T}
 use mathlib.Core.List.{[]}
 use lib.IntN.{pos}
-use lib.Ieee.{Float, neg, lt, ofBits}
+use lib.Ieee.{Float, neg, lt}
 use lib.Ieee.Scale.{finite}
 use Rattle.exact.specs.Fraction.{Fraction, zeroF, oneF, negF, _≤F_, _<F_, _≈F_, AbsF, minF, maxF, heldF}
 use Rattle.exact.proofs.Fraction.{≤F-refl, ≤F-trans, <F-le, ≈F-le, ≈F-ge, neg-monoF, neg-negF}
@@ -20,7 +20,7 @@ use Rattle.interval.specs.Interval.{least, greatest, point, abs, imin, i
 use Rattle.interval.specs.Encloses.{value, Small}
 use Rattle.interval.proofs.Compare.{lt-value, nlt-value, least-one, least-left, least-right, greatest-one, greatest-left, greatest-right}
 use Rattle.interval.proofs.Small.{small-finite, small-neg, value-neg}
-use Rattle.interval.proofs.Membership.{In, low, high, between, larger, equal-in, point-encloses, zero-value, zero-finite}
+use Rattle.interval.proofs.Membership.{In, low, high, between, larger, equal-in, point-encloses, zero-value, zero-finite, zero-encloses, one-encloses}
 
 -- ---- the lesser and the greater of two
 module _ {j k : ℕ} {q r : Fraction} {X Y : Interval} (h : In j q X) (g : In k r Y) where
@@ -57,17 +57,9 @@ module _ {j k : ℕ} {q r : Fraction} {X Y : Interval} (h : In j q X) (g : In k 
       (max-one q r (λ z. z ≤F value (greatest (X .hi) (Y .hi))) (≤F-trans (high h) (greatest-left (X .hi) (Y .hi) fin-hi fin-hi')) (≤F-trans (high g) (greatest-right (X .hi) (Y .hi) fin-hi fin-hi')))
 
 -- ---- held to 0..1
-zero-in : In 0 zeroF (point (b64 0))
-unfolding ofBits
-zero-in = equal-in zero-value (point-encloses (b64 0) (lit≤ tt))
-
-one-in : In 0 oneF (point (b64 0x3ff0_0000_0000_0000))
-unfolding ofBits
-one-in = equal-in (record { eq = refl }) (point-encloses (b64 0x3ff0_0000_0000_0000) (lit≤ tt))
-
 pub clamp-encloses : {k : ℕ} {q : Fraction} {X : Interval} → In k q X → In k (heldF q oneF) (clamp01 X)
 unfolding clamp01
-clamp-encloses {k} {q} {X} h = subst (λ (r : Fraction). In k r (clamp01 X)) (sym (held-is q oneF)) (same (same (min-encloses (max-encloses h zero-in) one-in)))
+clamp-encloses {k} {q} {X} h = subst (λ (r : Fraction). In k r (clamp01 X)) (sym (held-is q oneF)) (same (same (min-encloses (max-encloses h zero-encloses) one-encloses)))
   where
     same : {n : ℕ} {q : Fraction} {X : Interval} → In (max n 0) q X → In n q X
     same {n} {q} {X} h = subst (λ (m : ℕ). In m q X) (max-zero n) h

@@ -3,10 +3,10 @@
 use mathlib.Core.Path.{refl}
 use mathlib.Core.Bool.{true, false}
 use Prim.Native.Nat.{ℕ, _≤_}
-use lib.Dec.{T, leb, leb→le}
+use lib.Dec.{T, leb, leb→le, lit≤}
 use lib.Ieee.{Float, nan, inf, fin, lt, le, ofBits}
 use lib.Ieee.Scale.{finite}
-use Rattle.exact.specs.Fraction.{Fraction, zeroF, _≤F_, _<F_, _≈F_}
+use Rattle.exact.specs.Fraction.{Fraction, zeroF, oneF, _≤F_, _<F_, _≈F_}
 use Rattle.exact.proofs.Fraction.{≤F-refl, ≤F-trans, <F-≤F-trans, ≤F-<F-trans, ≈F-le, ≈F-ge}
 use Rattle.interval.specs.declared.Interval.{Interval}
 use Rattle.interval.specs.Step.{b64}
@@ -79,7 +79,7 @@ wider {j} k t h = larger (leb→le j k t) h
 pub point-encloses : {k : ℕ} (x : Float) → Small k x → In k (value x) (point x)
 point-encloses x h = between h h (≤F-refl (value x)) (≤F-refl (value x))
 
--- ---- signs
+-- ---- zero and one, and signs
 pub zero-value : value (b64 0) ≈F zeroF
 unfolding ofBits
 zero-value = record { eq = refl }
@@ -87,6 +87,22 @@ zero-value = record { eq = refl }
 pub zero-finite : T (finite (b64 0))
 unfolding ofBits
 zero-finite = tt
+
+pub one-value : value (b64 0x3ff0_0000_0000_0000) ≈F oneF
+unfolding ofBits
+one-value = record { eq = refl }
+
+pub one-finite : T (finite (b64 0x3ff0_0000_0000_0000))
+unfolding ofBits
+one-finite = tt
+
+pub zero-encloses : In 0 zeroF (point (b64 0))
+unfolding ofBits
+zero-encloses = equal-in zero-value (point-encloses (b64 0) (lit≤ tt))
+
+pub one-encloses : In 0 oneF (point (b64 0x3ff0_0000_0000_0000))
+unfolding ofBits
+one-encloses = equal-in one-value (point-encloses (b64 0x3ff0_0000_0000_0000) (lit≤ tt))
 
 -- "outside if lo > 0": every fraction that the interval holds is above zero
 pub above-zero : {q : Fraction} {i : Interval} → T (lt (b64 0) (i .lo)) → q ∈ i → zeroF <F q

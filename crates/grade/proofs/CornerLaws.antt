@@ -1,0 +1,78 @@
+-- (p − from)·d over a box: least and greatest at the two corners that the signs of d pick. Assumes nothing.
+use mathlib.Core.Path.{_≡_, refl}
+use mathlib.Core.Logic.{_⊎_, inl, inr}
+use mathlib.Core.Bool.{Bool, true, false, cond, not}
+use mathlib.Core.List.{List}
+use Prim.Native.Nat.{ℕ, zero, suc, _<_}
+use native.Mathlib.Omega.{arith}
+use lib.Dec.{T, lit<}
+use lib.IntN.{ℤ, pos, _+ℤ_, _-ℤ_, _*ℤ_}
+use lib.Signed.{ltZ, ltZ-yes, ltZ-no, _≤ℤ_, _<ℤ_}
+use Rattle.exact.specs.Fraction.{Fraction, whole, _+F_, _-F_, _*F_, _≤F_, _≈F_}
+use Rattle.exact.proofs.IntegerOrder.{<ℤ-le}
+use Rattle.exact.proofs.Fraction.{≤F-refl, ≤F-trans, ≈F-refl, ≈F-trans, ≈F-le, ≈F-ge, add-monoF, sub-monoF, mul-monoF, mul-antiF, commF, add-congF, mul-congF, whole-add, whole-sub, whole-mul}
+use Rattle.grade.specs.declared.Linear.{Linear}
+use Rattle.grade.specs.Grade.{at, minus, dot, Point, along}
+use Rattle.grade.specs.Exact.{toward, corner, atCorner}
+use Rattle.grade.specs.Holds.{Inside}
+
+-- ---- one axis
+module _ (p : Fraction) (f d lo hi : ℤ) (above : whole lo ≤F p) (below : p ≤F whole hi) where
+  share : Fraction → Fraction
+  share q = (q -F whole f) *F whole d
+
+  rising : pos 0 <ℤ d → {a b : Fraction} → a ≤F b → share a ≤F share b
+  unfolding share
+  rising s {a} {b} h = ≤F-trans (≈F-le (commF (a -F whole f) (whole d))) (≤F-trans (mul-monoF (whole d) (<ℤ-le s) (sub-monoF h (≤F-refl (whole f)))) (≈F-le (commF (whole d) (b -F whole f))))
+
+  falling : d ≤ℤ pos 0 → {a b : Fraction} → a ≤F b → share b ≤F share a
+  unfolding share
+  falling s {a} {b} h = ≤F-trans (≈F-le (commF (b -F whole f) (whole d))) (≤F-trans (mul-antiF (whole d) s (sub-monoF h (≤F-refl (whole f)))) (≈F-le (commF (whole d) (a -F whole f))))
+
+  axis-between : ((whole (toward d lo hi) -F whole f) *F whole d ≤F (p -F whole f) *F whole d) × ((p -F whole f) *F whole d ≤F (whole (toward d hi lo) -F whole f) *F whole d)
+  unfolding share
+  axis-between = go (ltZ (pos 0) d) ltZ-yes ltZ-no
+    where
+      go : (b : Bool) → (T b → pos 0 <ℤ d) → (T (not b) → d ≤ℤ pos 0) → ((whole (cond b lo hi) -F whole f) *F whole d ≤F (p -F whole f) *F whole d) × ((p -F whole f) *F whole d ≤F (whole (cond b hi lo) -F whole f) *F whole d)
+      go true y n = (rising (y tt) above, rising (y tt) below)
+      go false y n = (falling (n tt) below, falling (n tt) above)
+
+-- ---- three axes
+-- at a whole point
+pub along-whole : (from d c : List ℤ) → along from d (λ i. whole (at c i)) ≈F whole (dot (minus c from) d)
+unfolding along dot minus
+along-whole from d c = ≈F-trans (add-congF (≈F-trans (add-congF (axis 0) (axis 1)) (whole-add (term 0) (term 1))) (axis 2)) (whole-add (term 0 +ℤ term 1) (term 2))
+  where
+    term : ℕ → ℤ
+    term i = (at c i -ℤ at from i) *ℤ at d i
+
+    axis : (i : ℕ) → (whole (at c i) -F whole (at from i)) *F whole (at d i) ≈F whole ((at c i -ℤ at from i) *ℤ at d i)
+    axis i = ≈F-trans (mul-congF (whole-sub (at c i) (at from i)) (≈F-refl (whole (at d i)))) (whole-mul (at c i -ℤ at from i) (at d i))
+
+module _ (g : Linear) (lo hi : List ℤ) (p : Point) (inside : Inside lo hi p) where
+  axes : (i : ℕ) → i < 3 → ((whole (toward (at (g .direction) i) (at lo i) (at hi i)) -F whole (at (g .from) i)) *F whole (at (g .direction) i) ≤F (p i -F whole (at (g .from) i)) *F whole (at (g .direction) i))
+      × ((p i -F whole (at (g .from) i)) *F whole (at (g .direction) i) ≤F (whole (toward (at (g .direction) i) (at hi i) (at lo i)) -F whole (at (g .from) i)) *F whole (at (g .direction) i))
+  axes i l = axis-between (p i) (at (g .from) i) (at (g .direction) i) (at lo i) (at hi i) (inside .above i l) (inside .below i l)
+
+  pub along-least : whole (atCorner g lo hi) ≤F along (g .from) (g .direction) p
+  unfolding atCorner along corner
+  along-least = ≤F-trans (≈F-ge (along-whole (g .from) (g .direction) (corner (g .direction) lo hi))) (add-monoF (add-monoF (axes 0 (lit< tt) .0) (axes 1 (lit< tt) .0)) (axes 2 (lit< tt) .0))
+
+  pub along-greatest : along (g .from) (g .direction) p ≤F whole (atCorner g hi lo)
+  unfolding atCorner along corner
+  along-greatest = ≤F-trans (add-monoF (add-monoF (axes 0 (lit< tt) .1) (axes 1 (lit< tt) .1)) (axes 2 (lit< tt) .1)) (≈F-le (along-whole (g .from) (g .direction) (corner (g .direction) hi lo)))
+
+-- each entry of a corner is an entry of one of the two
+toward-one : (d a b : ℤ) → (toward d a b ≡ a) ⊎ (toward d a b ≡ b)
+toward-one d a b = go (ltZ (pos 0) d)
+  where
+    go : (c : Bool) → (cond c a b ≡ a) ⊎ (cond c a b ≡ b)
+    go true = inl refl
+    go false = inr refl
+
+pub corner-ends : (d a b : List ℤ) (i : ℕ) → i < 3 → (at (corner d a b) i ≡ at a i) ⊎ (at (corner d a b) i ≡ at b i)
+unfolding corner
+corner-ends d a b zero l = toward-one (at d 0) (at a 0) (at b 0)
+corner-ends d a b (suc zero) l = toward-one (at d 1) (at a 1) (at b 1)
+corner-ends d a b (suc (suc zero)) l = toward-one (at d 2) (at a 2) (at b 2)
+corner-ends d a b (suc (suc (suc i))) l = absurd (omega arith)

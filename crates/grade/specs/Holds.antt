@@ -1,0 +1,61 @@
+-- What the answers say of every rational point of a box: the statements that proofs/ proves. Definitions only; assumes nothing.
+use mathlib.Core.Path.{_≡_}
+use mathlib.Core.Bool.{cond}
+use mathlib.Core.Logic.{_⊎_}
+use mathlib.Core.List.{List}
+use Prim.Native.Nat.{ℕ, _<_}
+use lib.IntN.{ℤ, natAbs, _-ℤ_, _*ℤ_}
+use lib.Signed.{_≤ℤ_}
+use Rattle.exact.specs.Fraction.{Fraction, whole, zeroF, oneF, _/F_, _≤F_, _≈F_}
+use Rattle.grade.specs.declared.Grade.{Grade}
+use Rattle.grade.specs.declared.Bounds.{Bounds}
+use Rattle.grade.specs.declared.Piece.the-variants.{Start, Ramp, End}
+use Rattle.grade.specs.declared.PieceAnswer.{PieceAnswer}
+use Rattle.grade.specs.declared.PieceAnswer.the-variants.{Found, None}
+use Rattle.grade.specs.Grade.{at, Point, isLinear, direction, lengthSq, t, between, level}
+
+-- ---- a rational point of a box of whole ticks, its faces included
+pub record Inside (lo hi : List ℤ) (p : Point) : Type 0 where
+  pub above : (i : ℕ) → i < 3 → whole (at lo i) ≤F p i
+  pub below : (i : ℕ) → i < 3 → p i ≤F whole (at hi i)
+
+-- ---- "`range` is ordered, holds the level of every rational box point and takes both bounds at corners."
+-- q is the level at a corner of the box
+pub record Taken (g : Grade) (lo hi : List ℤ) (q : Fraction) : Type 0 where
+  pub corner : List ℤ
+  pub ends : (i : ℕ) → i < 3 → (at corner i ≡ at lo i) ⊎ (at corner i ≡ at hi i)
+  pub value : level g (λ i. whole (at corner i)) ≈F q
+
+-- a numerator over the bounds' denominator
+abbrev pub fraction : Bounds → ℤ → Fraction
+fraction b z = whole z /F natAbs (b .over)
+
+pub record RangeHolds (g : Grade) (lo hi : List ℤ) (b : Bounds) : Type 0 where
+  pub ordered : b .low ≤ℤ b .high
+  pub holds : (p : Point) → Inside lo hi p → (fraction b (b .low) ≤F level g p) × (level g p ≤F fraction b (b .high))
+  pub low-taken : Taken g lo hi (fraction b (b .low))
+  pub high-taken : Taken g lo hi (fraction b (b .high))
+
+-- ---- what a piece says of t, and so of the level
+abbrev pub Says : PieceAnswer → Fraction → Type 0
+Says (Found Start) t = t ≤F zeroF
+Says (Found Ramp) t = (zeroF ≤F t) × (t ≤F oneF)
+Says (Found End) t = oneF ≤F t
+Says None t = Unit {0}
+
+abbrev pub SaysLevel : Grade → Point → PieceAnswer → Type 0
+SaysLevel g p (Found Start) = level g p ≈F whole (g .start)
+SaysLevel g p (Found Ramp) = level g p ≈F between g (t g p)
+SaysLevel g p (Found End) = level g p ≈F whole (g .end)
+SaysLevel g p None = Unit {0}
+
+-- ---- the affine extension of the level, and its slope along an axis in level counts per tick
+unfoldable pub affineLevel : Grade → Point → Fraction
+affineLevel g p = cond (isLinear g) (between g (t g p)) (whole (g .start))
+
+unfoldable pub slope : Grade → ℕ → Fraction
+slope g i = cond (isLinear g) (whole (at (direction g) i *ℤ (g .end -ℤ g .start)) /F natAbs (lengthSq g)) zeroF
+
+-- "A tick is 1/1024 mm; a level count is 1/1024.": ticks in millimetres, and level counts as levels
+abbrev pub inUnits : Fraction → Fraction
+inUnits q = q /F 1024
