@@ -1,11 +1,17 @@
--- The laws of the grade layer. Assumes nothing.
-mod Sizes
+-- The laws of the grade layer. The layers above cite what is `pub` here; the rest serves its proofs. Assumes nothing.
+-- an accepted level, and its entries' sizes
 pub mod Entries
-mod AxisLaws
 pub mod Accepted
+-- the level, the range, the piece: exact, over every rational point
 pub mod LevelLaws
-mod CornerLaws
 pub mod RangeLaws
 pub mod PieceLaws
+-- the same in intervals
 pub mod IntervalLaws
 pub mod SlopeLaws
+-- certification, planes
+pub mod AxisLaws
+-- document 01's marked values
+pub mod MarkedValues
+mod Sizes
+mod CornerLaws

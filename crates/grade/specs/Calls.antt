@@ -10,6 +10,7 @@ use Rattle.grade.specs.declared.RangeAnswer.{RangeAnswer}
 use Rattle.grade.specs.declared.RangeAnswer.the-variants.{Refused, Found}
 use Rattle.grade.specs.Exact.{compiled, range}
 use Rattle.grade.specs.Refusals.{rangeRefusal}
+use Rattle.grade.specs.Holds.{RangeHolds}
 
 -- the refusal's number, 0 where there is none
 abbrev pub numberOf : RangeAnswer → ℕ
@@ -24,6 +25,11 @@ three b = b .low ∷ b .high ∷ b .over ∷ []
 abbrev pub valuesOf : RangeAnswer → List ℤ
 valuesOf (Refused n) = []
 valuesOf (Found b) = three b
+
+-- of an accepted call the bounds are ordered, hold every level of the box and are taken at its corners
+abbrev pub Holds : Grade → List ℤ → List ℤ → RangeAnswer → Type 0
+Holds g lo hi (Refused n) = Unit {0}
+Holds g lo hi (Found b) = RangeHolds g lo hi b
 
 -- the values of an accepted call
 unfoldable pub rangeValues : Grade → List ℤ → List ℤ → List ℤ

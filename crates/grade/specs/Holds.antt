@@ -12,6 +12,9 @@ use Rattle.grade.specs.declared.Bounds.{Bounds}
 use Rattle.grade.specs.declared.Piece.the-variants.{Start, Ramp, End}
 use Rattle.grade.specs.declared.PieceAnswer.{PieceAnswer}
 use Rattle.grade.specs.declared.PieceAnswer.the-variants.{Found, None}
+use Rattle.grade.specs.declared.Axis.{Axis}
+use Rattle.grade.specs.declared.Axis.the-variants.{One}
+use Rattle.grade.specs.declared.Planes.{Planes}
 use Rattle.grade.specs.Grade.{at, Point, isLinear, direction, lengthSq, t, between, level}
 
 -- ---- a rational point of a box of whole ticks, its faces included
@@ -48,6 +51,11 @@ SaysLevel g p (Found Start) = level g p ≈F whole (g .start)
 SaysLevel g p (Found Ramp) = level g p ≈F between g (t g p)
 SaysLevel g p (Found End) = level g p ≈F whole (g .end)
 SaysLevel g p None = Unit {0}
+
+-- ---- the positions of `from` and `to` on an axis
+abbrev pub positions : Axis → Grade → Planes
+positions (One i) g = Planes.Found i (at (g .from) i) (at (g .to) i)
+positions Axis.None g = Planes.None
 
 -- ---- the affine extension of the level, and its slope along an axis in level counts per tick
 unfoldable pub affineLevel : Grade → Point → Fraction

@@ -5,6 +5,9 @@ pub mod Refusals
 pub mod Certified
 pub mod Intervals
 pub mod Fast
-pub mod Calls
+-- what the answers say of every rational point, the public call, and document 01's marked values
 pub mod Holds
+pub mod Calls
+pub mod Marked
+-- what the layer's functions ask of their arguments
 pub mod Fits

@@ -11,7 +11,7 @@ use crate::Planes;
 use crate::Slope;
 use crate::refusals::or_else;
 use crate::refusals::refused;
-use crate::vector::equal;
+use crate::limits::equal;
 
 // Whether the first alone is not 0.
 fn only(a: i64, b: i64, c: i64) -> bool

@@ -10,7 +10,7 @@ use crate::Bounds;
 use crate::Linear;
 use crate::Piece;
 use crate::PieceAnswer;
-use crate::vector::equal;
+use crate::limits::equal;
 
 impl GradeDef {
     pub fn constant(level: i64) -> GradeDef

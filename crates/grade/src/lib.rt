@@ -1,14 +1,14 @@
 // The level of a core: its entries, the exact grade over whole numbers, the same in intervals and in doubles, and the public call
 // `grade_range`. Here stand the types. Each function equals its definition in specs/; proofs/ says what the answers hold for every
 // rational point of a box.
-pub mod limits; // which entries document 01 admits
-pub mod vector; // whole-number vectors of three
-pub mod refusals; // by document 01's numbers
-pub mod ramp; // the linear level's exact answers
-pub mod compiled; // the compiled grade's
-pub mod certified; // axis, planes, slope, and what certification refuses
+pub mod limits; // which entries document 01 admits, and how entries compare
+pub mod refusals; // refusals by document 01's numbers
+mod vector; // whole-number vectors of three
+mod ramp; // the linear level's exact answers
+mod compiled; // the compiled grade and its exact answers
+mod certified; // axis, planes, slope, and what certification refuses
 pub mod intervals; // the grade in intervals, its constants kept
-pub mod fast; // the grade in doubles
+mod fast; // the grade in doubles
 pub mod range; // the public call
 
 use interval::Interval;

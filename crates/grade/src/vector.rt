@@ -1,8 +1,7 @@
 // Whole-number vectors of three: the anchors, their difference, the corners of a box.
 ghost use mathlib.Core.Path.{_≡_};
-ghost use Rattle.grade.specs.Grade.{eqZ, minus, dot};
+ghost use Rattle.grade.specs.Grade.{minus, dot};
 ghost use Rattle.grade.specs.Exact.{toward, corner};
-ghost use Rattle.grade.specs.Refusals.{same, above};
 ghost use Rattle.grade.specs.Fits.{Within3};
 
 pub fn minus(a: [i64; 3], b: [i64; 3]) -> [i64; 3]
@@ -33,23 +32,4 @@ pub fn corner(d: [i64; 3], a: [i64; 3], b: [i64; 3]) -> [i64; 3]
     let y = toward(d[1], a[1], b[1]);
     let z = toward(d[2], a[2], b[2]);
     [x, y, z]
-}
-
-pub fn equal(a: i64, b: i64) -> bool
-    ensures { λ r. ⌜ r ≡ eqZ a b ⌝ }
-{
-    a == b
-}
-
-pub fn same(a: [i64; 3], b: [i64; 3]) -> bool
-    ensures { λ r. ⌜ r ≡ same a b ⌝ }
-{
-    equal(a[0], b[0]) & equal(a[1], b[1]) & equal(a[2], b[2])
-}
-
-// Whether a low is above its high.
-pub fn above(lo: [i64; 3], hi: [i64; 3]) -> bool
-    ensures { λ r. ⌜ r ≡ above lo hi ⌝ }
-{
-    (hi[0] < lo[0]) | (hi[1] < lo[1]) | (hi[2] < lo[2])
 }

@@ -8,18 +8,15 @@ use Rattle.grade.proofs.Grade.coincident.Statement.{statement}
 use Rattle.grade.proofs.Grade.coincident.Tie as tie
 use Rattle.grade.proofs.Grade.coincident.Reads as reads
 use Rattle.grade.proofs.Grade.coincident.Lts as lts
-use Rattle.grade.proofs.vector.equal.Reads as equal-reads
-use Rattle.grade.proofs.vector.same.Reads as same-reads
+use Rattle.grade.proofs.limits.equal.Reads as equal-reads
+use Rattle.grade.proofs.limits.same.Reads as same-reads
 
--- src/refusals.rt:35:9
 equal-requires : tie.Need-equal-requires
 equal-requires c κs = search needs
 
--- src/refusals.rt:35:31
 same-requires : tie.Need-same-requires
 same-requires c κs = search needs
 
--- src/refusals.rt:30:5
 returns : tie.Need-returns
 returns c =
     let e = heard (λ z. eqZ z (pos 1)) {x = c .before .before .before .before .before .args .self .kind} (record { sfits = c .before .before .struct-told .given .0 .1 }) (c .before .equal .ensures) in

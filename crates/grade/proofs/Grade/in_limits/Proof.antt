@@ -12,23 +12,18 @@ use Rattle.grade.proofs.Grade.in_limits.Lts as lts
 use Rattle.grade.proofs.limits.count.Reads as count-reads
 use Rattle.grade.proofs.limits.ticks.Reads as ticks-reads
 
--- src/limits.rt:30:47
 ticks-requires : tie.Need-ticks-requires
 ticks-requires c κs = search needs
 
--- src/limits.rt:30:61
 ticks-requires-2 : tie.Need-ticks-requires-2
 ticks-requires-2 c κs = search needs
 
--- src/limits.rt:30:73
 count-requires : tie.Need-count-requires
 count-requires c κs = search needs
 
--- src/limits.rt:30:93
 count-requires-2 : tie.Need-count-requires-2
 count-requires-2 c κs = search needs
 
--- src/limits.rt:25:5
 returns : tie.Need-returns
 unfolding inLimits
 returns c =

@@ -7,13 +7,11 @@ use Rattle.grade.proofs.Grade.is_distance.Statement.{statement}
 use Rattle.grade.proofs.Grade.is_distance.Tie as tie
 use Rattle.grade.proofs.Grade.is_distance.Reads as reads
 use Rattle.grade.proofs.Grade.is_distance.Lts as lts
-use Rattle.grade.proofs.vector.equal.Reads as equal-reads
+use Rattle.grade.proofs.limits.equal.Reads as equal-reads
 
--- src/refusals.rt:26:9
 equal-requires : tie.Need-equal-requires
 equal-requires c κs = search needs
 
--- src/refusals.rt:23:5
 returns : tie.Need-returns
 returns c = heard (λ z. eqZ z (pos 2)) {x = c .before .before .args .self .kind} (record { sfits = c .before .struct-told .given .0 .1 }) (c .equal .ensures)
 

@@ -13,61 +13,47 @@ use Rattle.grade.proofs.Grade.is_distance.Reads as is-distance-reads
 use Rattle.grade.proofs.limits.ticks.Reads as ticks-reads
 use Rattle.grade.proofs.refusals.or_else.Reads as or-else-reads
 use Rattle.grade.proofs.refusals.refused.Reads as refused-reads
-use Rattle.grade.proofs.vector.above.Reads as above-reads
+use Rattle.grade.proofs.limits.above.Reads as above-reads
 
--- src/refusals.rt:41:32
 in-limits-requires : tie.Need-in-limits-requires
 in-limits-requires c κs = search needs
 
--- src/refusals.rt:41:51
 ticks-requires : tie.Need-ticks-requires
 ticks-requires c κs = search needs
 
--- src/refusals.rt:41:63
 ticks-requires-2 : tie.Need-ticks-requires-2
 ticks-requires-2 c κs = search needs
 
--- src/refusals.rt:41:13
 refused-requires : tie.Need-refused-requires
 refused-requires c κs = search needs
 
--- src/refusals.rt:42:29
 above-requires : tie.Need-above-requires
 above-requires c κs = search needs
 
--- src/refusals.rt:42:13
 refused-requires-2 : tie.Need-refused-requires-2
 refused-requires-2 c κs = search needs
 
--- src/refusals.rt:43:32
 is-distance-requires : tie.Need-is-distance-requires
 is-distance-requires c κs = search needs
 
--- src/refusals.rt:43:13
 refused-requires-3 : tie.Need-refused-requires-3
 refused-requires-3 c κs = search needs
 
--- src/refusals.rt:44:30
 coincident-requires : tie.Need-coincident-requires
 coincident-requires c κs = search needs
 
--- src/refusals.rt:44:13
 refused-requires-4 : tie.Need-refused-requires-4
 refused-requires-4 c κs = search needs
 
--- src/refusals.rt:45:40
 or-else-requires : tie.Need-or-else-requires
 or-else-requires c κs = search needs
 
--- src/refusals.rt:45:25
 or-else-requires-2 : tie.Need-or-else-requires-2
 or-else-requires-2 c κs = search needs
 
--- src/refusals.rt:45:9
 or-else-requires-3 : tie.Need-or-else-requires-3
 or-else-requires-3 c κs = search needs
 
--- src/refusals.rt:38:5
 returns : tie.Need-returns
 unfolding rangeRefusal
 returns c =

@@ -7,24 +7,19 @@ use Rattle.grade.proofs.GradeDef.axis.Reads as reads
 use Rattle.grade.proofs.GradeDef.axis.Lts as lts
 use Rattle.grade.proofs.Linear.axis.Reads as axis-reads
 
--- src/certified.rt:96:36
 enum-told : tie.Need-enum-told
 enum-told c = search needs
 
--- src/certified.rt:97:34
 enum-told-2 : tie.Need-enum-told-2
 enum-told-2 c = search needs
 
--- src/certified.rt:97:34
 axis-requires : tie.Need-axis-requires
 axis-requires c κs = search needs
 
--- src/certified.rt:90:5
 returns : tie.Need-returns
 unfolding defAxis
 returns c = rw (c .enum-told .given .1)
 
--- src/certified.rt:90:5
 returns-2 : tie.Need-returns-2
 unfolding defAxis
 returns-2 c = rw (c .axis .ensures, c .before .enum-told2 .given .1)

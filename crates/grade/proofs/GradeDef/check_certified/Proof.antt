@@ -7,24 +7,19 @@ use Rattle.grade.proofs.GradeDef.check_certified.Reads as reads
 use Rattle.grade.proofs.GradeDef.check_certified.Lts as lts
 use Rattle.grade.proofs.Linear.check_certified.Reads as check-certified-reads
 
--- src/certified.rt:143:36
 enum-told : tie.Need-enum-told
 enum-told c = search needs
 
--- src/certified.rt:144:34
 enum-told-2 : tie.Need-enum-told-2
 enum-told-2 c = search needs
 
--- src/certified.rt:144:34
 check-certified-requires : tie.Need-check-certified-requires
 check-certified-requires c κs = search needs
 
--- src/certified.rt:136:5
 returns : tie.Need-returns
 unfolding certification
 returns c = rw (c .enum-told .given .1)
 
--- src/certified.rt:136:5
 returns-2 : tie.Need-returns-2
 unfolding certification
 returns-2 c = rw (c .check-certified .ensures, c .before .enum-told2 .given .1)

@@ -17,7 +17,7 @@ use Rattle.grade.proofs.GradeDef.compile.Reads as reads
 use Rattle.grade.proofs.GradeDef.compile.Lts as lts
 use Rattle.grade.proofs.GradeDef.constant.Reads as constant-reads
 use Rattle.grade.proofs.Linear.new.Reads as new-reads
-use Rattle.grade.proofs.vector.equal.Reads as equal-reads
+use Rattle.grade.proofs.limits.equal.Reads as equal-reads
 
 
 ramp-is : (g : Grade) → (isLinear g && not (eqZ (g .start) (g .end))) ≡ true → record { kind = LevelKind.Linear; linear = linearOf (g .from) (g .to) (g .start) (g .end) } ≡ compiled g
@@ -28,21 +28,17 @@ constant-is : (g : Grade) → (isLinear g && not (eqZ (g .start) (g .end))) ≡ 
 unfolding compiled
 constant-is g t = rw t
 
--- src/compiled.rt:37:12
 equal-requires : tie.Need-equal-requires
 equal-requires c κs = search needs
 
--- src/compiled.rt:37:32
 equal-requires-2 : tie.Need-equal-requires-2
 equal-requires-2 c κs = search needs
 
--- src/compiled.rt:40:17
 new-requires : tie.Need-new-requires
 new-requires c κs =
     let s = sizes (c .before .before .before .before .before .before .before .before .before .before .args .g) (c .before .before .before .before .before .before .before .before .before .before .pre) in
     (s .from, s .to)
 
--- src/compiled.rt:41:13
 returns : tie.Need-returns
 returns c =
     let g = c .before .before .before .before .before .before .before .before .before .before .before .args .g in
@@ -53,11 +49,9 @@ returns c =
     let v = back (within-fits tt (s .end)) in
     (λ k. record { kind = LevelKind.Linear; linear = (c .new .ensures ∙ (λ i. linearOf (g .from) (g .to) (u i) (v i))) k }) ∙ ramp-is g (sym (λ k. one k && not (ends k)) ∙ c .before .before .before .before .before .if1 .taken)
 
--- src/compiled.rt:46:9
 constant-requires : tie.Need-constant-requires
 constant-requires c κs = search needs
 
--- src/compiled.rt:33:5
 returns-2 : tie.Need-returns-2
 returns-2 c =
     let g = c .before .before .before .before .before .before .before .before .args .g in

@@ -9,7 +9,6 @@ use Rattle.grade.proofs.GradeDef.constant.Tie as tie
 use Rattle.grade.proofs.GradeDef.constant.Reads as reads
 use Rattle.grade.proofs.GradeDef.constant.Lts as lts
 
--- src/compiled.rt:16:5
 returns : tie.Need-returns
 unfolding constantDef
 returns c =

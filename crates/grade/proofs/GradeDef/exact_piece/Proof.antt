@@ -7,24 +7,19 @@ use Rattle.grade.proofs.GradeDef.exact_piece.Reads as reads
 use Rattle.grade.proofs.GradeDef.exact_piece.Lts as lts
 use Rattle.grade.proofs.Linear.exact_piece.Reads as exact-piece-reads
 
--- src/compiled.rt:72:55
 enum-told : tie.Need-enum-told
 enum-told c = search needs
 
--- src/compiled.rt:73:34
 enum-told-2 : tie.Need-enum-told-2
 enum-told-2 c = search needs
 
--- src/compiled.rt:73:34
 exact-piece-requires : tie.Need-exact-piece-requires
 exact-piece-requires c κs = search needs
 
--- src/compiled.rt:65:5
 returns : tie.Need-returns
 unfolding exactPiece
 returns c = rw (c .enum-told .given .1)
 
--- src/compiled.rt:65:5
 returns-2 : tie.Need-returns-2
 unfolding exactPiece
 returns-2 c = rw (c .exact-piece .ensures, c .before .enum-told2 .given .1)

@@ -11,30 +11,24 @@ use Rattle.grade.proofs.GradeDef.fast.Lts as lts
 use Rattle.grade.proofs.Linear.fast.Reads as fast-reads
 use Rattle.grade.proofs.fast.near.Reads as near-reads
 
--- src/fast.rt:62:36
 enum-told : tie.Need-enum-told
 enum-told c = search needs
 
--- src/fast.rt:62:36
 near-requires : tie.Need-near-requires
 near-requires c κs = within-bits 2097152 tt tt (c .before .before .before .before .pre .linear .start)
 
--- src/fast.rt:63:34
 enum-told-2 : tie.Need-enum-told-2
 enum-told-2 c = search needs
 
--- src/fast.rt:63:34
 fast-requires : tie.Need-fast-requires
 fast-requires c κs = search needs
 
--- src/fast.rt:55:5
 returns : tie.Need-returns
 unfolding fast
 returns c =
     let s = heard near (within-fits tt (c .before .before .before .before .before .pre .linear .start)) (c .near .ensures) in
     s ∙ rw (c .before .before .enum-told .given .1)
 
--- src/fast.rt:55:5
 returns-2 : tie.Need-returns-2
 unfolding fast
 returns-2 c = rw (c .fast .ensures, c .before .enum-told2 .given .1)

@@ -7,11 +7,9 @@ use Rattle.grade.proofs.GradeDef.intervals.Reads as reads
 use Rattle.grade.proofs.GradeDef.intervals.Lts as lts
 use Rattle.grade.proofs.Linear.intervals.Reads as intervals-reads
 
--- src/intervals.rt:82:21
 intervals-requires : tie.Need-intervals-requires
 intervals-requires c κs = search needs
 
--- src/intervals.rt:74:5
 returns : tie.Need-returns
 unfolding gradeIntervals
 returns c = rw (c .intervals .ensures)

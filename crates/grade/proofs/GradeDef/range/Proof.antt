@@ -9,26 +9,21 @@ use Rattle.grade.proofs.GradeDef.range.Reads as reads
 use Rattle.grade.proofs.GradeDef.range.Lts as lts
 use Rattle.grade.proofs.Linear.range.Reads as range-reads
 
--- src/compiled.rt:56:36
 enum-told : tie.Need-enum-told
 enum-told c = search needs
 
--- src/compiled.rt:61:34
 enum-told-2 : tie.Need-enum-told-2
 enum-told-2 c = search needs
 
--- src/compiled.rt:61:34
 range-requires : tie.Need-range-requires
 range-requires c κs = search needs
 
--- src/compiled.rt:49:5
 returns : tie.Need-returns
 unfolding range
 returns c =
     let s = back (within-fits tt (c .before .before .before .before .pre .0 .linear .start)) in
     rw (s, c .before .enum-told .given .1)
 
--- src/compiled.rt:49:5
 returns-2 : tie.Need-returns-2
 unfolding range
 returns-2 c =

@@ -10,28 +10,22 @@ use Rattle.grade.proofs.GradeDef.slope_bound.Lts as lts
 use Rattle.grade.proofs.Linear.distance.Reads as distance-reads
 use Rattle.grade.proofs.Linear.rise.Reads as rise-reads
 
--- src/certified.rt:125:36
 enum-told : tie.Need-enum-told
 enum-told c = search needs
 
--- src/certified.rt:130:23
 enum-told-2 : tie.Need-enum-told-2
 enum-told-2 c = search needs
 
--- src/certified.rt:130:23
 rise-requires : tie.Need-rise-requires
 rise-requires c κs = search needs
 
--- src/certified.rt:131:27
 distance-requires : tie.Need-distance-requires
 distance-requires c κs = search needs
 
--- src/certified.rt:118:5
 returns : tie.Need-returns
 unfolding slopeBound
 returns c = rw (c .enum-told .given .1)
 
--- src/certified.rt:118:5
 returns-2 : tie.Need-returns-2
 unfolding slopeBound
 returns-2 c =

@@ -8,28 +8,22 @@ use Rattle.grade.proofs.GradeIntervals.affine.Lts as lts
 use Rattle.grade.proofs.LinearIntervals.interval_parameter.Reads as interval-parameter-reads
 use Rattle.grade.proofs.LinearIntervals.level_of.Reads as level-of-reads
 
--- src/intervals.rt:157:36
 enum-told : tie.Need-enum-told
 enum-told c = search needs
 
--- src/intervals.rt:158:50
 enum-told-2 : tie.Need-enum-told-2
 enum-told-2 c = search needs
 
--- src/intervals.rt:158:50
 interval-parameter-requires : tie.Need-interval-parameter-requires
 interval-parameter-requires c κs = search needs
 
--- src/intervals.rt:158:34
 level-of-requires : tie.Need-level-of-requires
 level-of-requires c κs = search needs
 
--- src/intervals.rt:151:5
 returns : tie.Need-returns
 unfolding affine
 returns c = rw (c .before .enum-told .given .1)
 
--- src/intervals.rt:151:5
 returns-2 : tie.Need-returns-2
 unfolding affine
 returns-2 c = rw (c .level-of .ensures, c .before .interval-parameter .ensures, c .before .before .enum-told2 .given .1)

@@ -7,24 +7,19 @@ use Rattle.grade.proofs.GradeIntervals.gradient.Reads as reads
 use Rattle.grade.proofs.GradeIntervals.gradient.Lts as lts
 use Rattle.grade.proofs.intervals.zeros.Reads as zeros-reads
 
--- src/intervals.rt:170:36
 enum-told : tie.Need-enum-told
 enum-told c = search needs
 
--- src/intervals.rt:170:36
 zeros-requires : tie.Need-zeros-requires
 zeros-requires c κs = search needs
 
--- src/intervals.rt:171:34
 enum-told-2 : tie.Need-enum-told-2
 enum-told-2 c = search needs
 
--- src/intervals.rt:163:5
 returns : tie.Need-returns
 unfolding gradient
 returns c = rw (c .zeros .ensures, c .before .enum-told .given .1)
 
--- src/intervals.rt:163:5
 returns-2 : tie.Need-returns-2
 unfolding gradient
 returns-2 c = rw (c .enum-told2 .given .1)

@@ -9,32 +9,25 @@ use Rattle.grade.proofs.LinearIntervals.interval_parameter.Reads as int
 use Rattle.grade.proofs.LinearIntervals.level_of.Reads as level-of-reads
 use Rattle.interval.proofs.Interval.clamp01.Reads as clamp01-reads
 
--- src/intervals.rt:145:36
 enum-told : tie.Need-enum-told
 enum-told c = search needs
 
--- src/intervals.rt:146:50
 enum-told-2 : tie.Need-enum-told-2
 enum-told-2 c = search needs
 
--- src/intervals.rt:146:50
 interval-parameter-requires : tie.Need-interval-parameter-requires
 interval-parameter-requires c κs = search needs
 
--- src/intervals.rt:146:50
 clamp01-requires : tie.Need-clamp01-requires
 clamp01-requires c κs = search needs
 
--- src/intervals.rt:146:34
 level-of-requires : tie.Need-level-of-requires
 level-of-requires c κs = search needs
 
--- src/intervals.rt:139:5
 returns : tie.Need-returns
 unfolding interval
 returns c = rw (c .before .enum-told .given .1)
 
--- src/intervals.rt:139:5
 returns-2 : tie.Need-returns-2
 unfolding interval
 returns-2 c = rw (c .level-of .ensures, c .before .clamp01 .ensures, c .before .before .interval-parameter .ensures, c .before .before .before .enum-told2 .given .1)

@@ -8,28 +8,22 @@ use Rattle.grade.proofs.GradeIntervals.piece.Lts as lts
 use Rattle.grade.proofs.LinearIntervals.interval_parameter.Reads as interval-parameter-reads
 use Rattle.grade.proofs.intervals.piece_of.Reads as piece-of-reads
 
--- src/intervals.rt:191:55
 enum-told : tie.Need-enum-told
 enum-told c = search needs
 
--- src/intervals.rt:192:43
 enum-told-2 : tie.Need-enum-told-2
 enum-told-2 c = search needs
 
--- src/intervals.rt:192:43
 interval-parameter-requires : tie.Need-interval-parameter-requires
 interval-parameter-requires c κs = search needs
 
--- src/intervals.rt:192:34
 piece-of-requires : tie.Need-piece-of-requires
 piece-of-requires c κs = search needs
 
--- src/intervals.rt:185:5
 returns : tie.Need-returns
 unfolding piece
 returns c = rw (c .enum-told .given .1)
 
--- src/intervals.rt:185:5
 returns-2 : tie.Need-returns-2
 unfolding piece
 returns-2 c = rw (c .piece-of .ensures, c .before .interval-parameter .ensures, c .before .before .enum-told2 .given .1)

@@ -8,41 +8,32 @@ use Rattle.grade.proofs.GradeIntervals.piece_gradient.Lts as lts
 use Rattle.grade.proofs.GradeIntervals.gradient.Reads as gradient-reads
 use Rattle.grade.proofs.intervals.zeros.Reads as zeros-reads
 
--- src/intervals.rt:179:29
 enum-told : tie.Need-enum-told
 enum-told c = search needs
 
--- src/intervals.rt:179:29
 zeros-requires : tie.Need-zeros-requires
 zeros-requires c κs = search needs
 
--- src/intervals.rt:180:28
 enum-told-2 : tie.Need-enum-told-2
 enum-told-2 c = search needs
 
--- src/intervals.rt:180:28
 gradient-requires : tie.Need-gradient-requires
 gradient-requires c κs = search needs
 
--- src/intervals.rt:181:27
 enum-told-3 : tie.Need-enum-told-3
 enum-told-3 c = search needs
 
--- src/intervals.rt:181:27
 zeros-requires-2 : tie.Need-zeros-requires-2
 zeros-requires-2 c κs = search needs
 
--- src/intervals.rt:175:5
 returns : tie.Need-returns
 unfolding pieceGradient
 returns c = rw (c .zeros .ensures, c .before .enum-told .given .1)
 
--- src/intervals.rt:175:5
 returns-2 : tie.Need-returns-2
 unfolding pieceGradient
 returns-2 c = rw (c .gradient .ensures, c .before .enum-told2 .given .1)
 
--- src/intervals.rt:175:5
 returns-3 : tie.Need-returns-3
 unfolding pieceGradient
 returns-3 c = rw (c .zeros2 .ensures, c .before .enum-told3 .given .1)

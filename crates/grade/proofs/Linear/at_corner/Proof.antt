@@ -14,24 +14,20 @@ use Rattle.grade.proofs.vector.corner.Reads as corner-reads
 use Rattle.grade.proofs.vector.dot.Reads as dot-reads
 use Rattle.grade.proofs.vector.minus.Reads as minus-reads
 
--- src/ramp.rt:81:13
 corner-requires : tie.Need-corner-requires
 corner-requires c κs = search needs
 
--- src/ramp.rt:82:13
 minus-requires : tie.Need-minus-requires
 minus-requires c κs =
     let p = c .before .before .before .pre in
     (subst⁻¹ (Within3 1048576) (c .corner .ensures) (corner-within (c .before .before .before .args .self .direction) (p .1 .0) (p .1 .1)), p .0 .from)
 
--- src/ramp.rt:83:9
 dot-requires : tie.Need-dot-requires
 dot-requires c κs =
     let p = c .before .before .before .before .pre in
     let e = c .minus .ensures ∙ ap (λ q. minus q (c .before .before .before .before .args .self .from)) (c .before .corner .ensures) in
     (subst⁻¹ (Within3 2097152) e (minus-within (corner-within (c .before .before .before .before .args .self .direction) (p .1 .0) (p .1 .1)) (p .0 .from)), p .0 .direction)
 
--- src/ramp.rt:75:5
 returns : tie.Need-returns
 unfolding atCorner
 returns c =

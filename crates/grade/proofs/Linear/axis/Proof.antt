@@ -11,59 +11,45 @@ use Rattle.grade.proofs.Linear.axis.Lts as lts
 use Rattle.grade.proofs.certified.axis_of.Reads as axis-of-reads
 use Rattle.grade.proofs.certified.only.Reads as only-reads
 
--- src/certified.rt:69:18
 array-copy-out-only : tie.Need-array-copy-out-only
 array-copy-out-only c = search needs
 
--- src/certified.rt:69:24
 array-copy-out-only-2 : tie.Need-array-copy-out-only-2
 array-copy-out-only-2 c = search needs
 
--- src/certified.rt:69:30
 array-copy-out-only-3 : tie.Need-array-copy-out-only-3
 array-copy-out-only-3 c = search needs
 
--- src/certified.rt:69:13
 only-requires : tie.Need-only-requires
 only-requires c κs = search needs
 
--- src/certified.rt:70:18
 array-copy-out-only-4 : tie.Need-array-copy-out-only-4
 array-copy-out-only-4 c = search needs
 
--- src/certified.rt:70:24
 array-copy-out-only-5 : tie.Need-array-copy-out-only-5
 array-copy-out-only-5 c = search needs
 
--- src/certified.rt:70:30
 array-copy-out-only-6 : tie.Need-array-copy-out-only-6
 array-copy-out-only-6 c = search needs
 
--- src/certified.rt:70:13
 only-requires-2 : tie.Need-only-requires-2
 only-requires-2 c κs = search needs
 
--- src/certified.rt:71:18
 array-copy-out-only-7 : tie.Need-array-copy-out-only-7
 array-copy-out-only-7 c = search needs
 
--- src/certified.rt:71:24
 array-copy-out-only-8 : tie.Need-array-copy-out-only-8
 array-copy-out-only-8 c = search needs
 
--- src/certified.rt:71:30
 array-copy-out-only-9 : tie.Need-array-copy-out-only-9
 array-copy-out-only-9 c = search needs
 
--- src/certified.rt:71:13
 only-requires-3 : tie.Need-only-requires-3
 only-requires-3 c κs = search needs
 
--- src/certified.rt:68:9
 axis-of-requires : tie.Need-axis-of-requires
 axis-of-requires c κs = search needs
 
--- src/certified.rt:64:5
 returns : tie.Need-returns
 unfolding axis
 returns c =

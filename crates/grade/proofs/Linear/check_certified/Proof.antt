@@ -21,55 +21,42 @@ use Rattle.grade.proofs.certified.ending.Reads as ending-reads
 use Rattle.grade.proofs.refusals.or_else.Reads as or-else-reads
 use Rattle.grade.proofs.refusals.refused.Reads as refused-reads
 
--- src/certified.rt:96:29
 axis-requires : tie.Need-axis-requires
 axis-requires c κs = search needs
 
--- src/certified.rt:96:29
 is-one-requires : tie.Need-is-one-requires
 is-one-requires c κs = search needs
 
--- src/certified.rt:96:13
 refused-requires : tie.Need-refused-requires
 refused-requires c κs = search needs
 
--- src/certified.rt:97:30
 ending-requires : tie.Need-ending-requires
 ending-requires c κs = search needs
 
--- src/certified.rt:97:51
 ending-requires-2 : tie.Need-ending-requires-2
 ending-requires-2 c κs = search needs
 
--- src/certified.rt:97:13
 refused-requires-2 : tie.Need-refused-requires-2
 refused-requires-2 c κs = search needs
 
--- src/certified.rt:98:29
 distance-requires : tie.Need-distance-requires
 distance-requires c κs = search needs
 
--- src/certified.rt:98:52
 rise-requires : tie.Need-rise-requires
 rise-requires c κs = search needs
 
--- src/certified.rt:98:47
 mul-refused : tie.Need-mul-refused
 mul-refused c = fits tt (mul (is (within-self (pos 10))) (bit tt (got (c .rise .ensures) (rise-within _ (c .before .before .before .before .before .before .before .before .before .before .pre)))))
 
--- src/certified.rt:98:13
 refused-requires-3 : tie.Need-refused-requires-3
 refused-requires-3 c κs = search needs
 
--- src/certified.rt:99:23
 or-else-requires : tie.Need-or-else-requires
 or-else-requires c κs = search needs
 
--- src/certified.rt:99:9
 or-else-requires-2 : tie.Need-or-else-requires-2
 or-else-requires-2 c κs = search needs
 
--- src/certified.rt:92:5
 returns : tie.Need-returns
 unfolding linearCertification
 returns c =

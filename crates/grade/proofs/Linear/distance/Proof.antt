@@ -10,23 +10,18 @@ use Rattle.grade.proofs.Linear.distance.Reads as reads
 use Rattle.grade.proofs.Linear.distance.Lts as lts
 use Rattle.grade.proofs.certified.size.Reads as size-reads
 
--- src/certified.rt:67:14
 array-copy-out-size : tie.Need-array-copy-out-size
 array-copy-out-size c = search needs
 
--- src/certified.rt:67:9
 size-requires : tie.Need-size-requires
 size-requires c κs = search needs
 
--- src/certified.rt:67:27
 array-copy-out-size-2 : tie.Need-array-copy-out-size-2
 array-copy-out-size-2 c = search needs
 
--- src/certified.rt:67:22
 size-requires-2 : tie.Need-size-requires-2
 size-requires-2 c κs = search needs
 
--- src/certified.rt:67:9
 add-result : tie.Need-add-result
 add-result c =
     let p = c .before .before .before .before .before .pre .direction in
@@ -34,15 +29,12 @@ add-result c =
     let y = bit tt (got (c .size2 .ensures ∙ ap size (bit tt (is (p .y)) .same)) (size-within (p .y))) in
     fits tt (add x y)
 
--- src/certified.rt:67:40
 array-copy-out-size-3 : tie.Need-array-copy-out-size-3
 array-copy-out-size-3 c = search needs
 
--- src/certified.rt:67:35
 size-requires-3 : tie.Need-size-requires-3
 size-requires-3 c κs = search needs
 
--- src/certified.rt:67:9
 add-result-2 : tie.Need-add-result-2
 add-result-2 c =
     let p = c .before .before .before .before .before .before .before .pre .direction in
@@ -51,7 +43,6 @@ add-result-2 c =
     let z = bit tt (got (c .size3 .ensures ∙ ap size (bit tt (is (p .z)) .same)) (size-within (p .z))) in
     fits tt (add (bit tt (add x y)) z)
 
--- src/certified.rt:62:5
 returns : tie.Need-returns
 unfolding distance
 returns c =

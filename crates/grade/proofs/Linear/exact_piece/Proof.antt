@@ -14,19 +14,15 @@ use Rattle.grade.proofs.Linear.exact_piece.Lts as lts
 use Rattle.grade.proofs.Linear.at_corner.Reads as at-corner-reads
 use Rattle.grade.proofs.ramp.chosen.Reads as chosen-reads
 
--- src/ramp.rt:108:13
 at-corner-requires : tie.Need-at-corner-requires
 at-corner-requires c κs = search needs
 
--- src/ramp.rt:109:13
 at-corner-requires-2 : tie.Need-at-corner-requires-2
 at-corner-requires-2 c κs = search needs
 
--- src/ramp.rt:111:9
 chosen-requires : tie.Need-chosen-requires
 chosen-requires c κs = search needs
 
--- src/ramp.rt:104:5
 returns : tie.Need-returns
 unfolding linearPiece
 returns c =

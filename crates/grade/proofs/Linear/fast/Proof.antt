@@ -17,71 +17,54 @@ use Rattle.grade.proofs.fast.fast_along.Reads as fast-along-reads
 use Rattle.grade.proofs.fast.near.Reads as near-reads
 use Rattle.interval.proofs.nearest.nearest.Reads as nearest-reads
 
--- src/fast.rt:45:28
 array-read-fast-along : tie.Need-array-read-fast-along
 array-read-fast-along c = search needs
 
--- src/fast.rt:45:34
 array-copy-out-fast-along : tie.Need-array-copy-out-fast-along
 array-copy-out-fast-along c = search needs
 
--- src/fast.rt:45:43
 array-copy-out-fast-along-2 : tie.Need-array-copy-out-fast-along-2
 array-copy-out-fast-along-2 c = search needs
 
--- src/fast.rt:45:13
 fast-along-requires : tie.Need-fast-along-requires
 fast-along-requires c κs = (within-bits 2097152 tt tt (c .before .before .before .before .pre .from .x), within-bits 2097152 tt tt (c .before .before .before .before .pre .direction .x))
 
--- src/fast.rt:46:28
 array-read-fast-along-2 : tie.Need-array-read-fast-along-2
 array-read-fast-along-2 c = search needs
 
--- src/fast.rt:46:34
 array-copy-out-fast-along-3 : tie.Need-array-copy-out-fast-along-3
 array-copy-out-fast-along-3 c = search needs
 
--- src/fast.rt:46:43
 array-copy-out-fast-along-4 : tie.Need-array-copy-out-fast-along-4
 array-copy-out-fast-along-4 c = search needs
 
--- src/fast.rt:46:13
 fast-along-requires-2 : tie.Need-fast-along-requires-2
 fast-along-requires-2 c κs = (within-bits 2097152 tt tt (c .before .before .before .before .before .before .before .pre .from .y), within-bits 2097152 tt tt (c .before .before .before .before .before .before .before .pre .direction .y))
 
--- src/fast.rt:47:28
 array-read-fast-along-3 : tie.Need-array-read-fast-along-3
 array-read-fast-along-3 c = search needs
 
--- src/fast.rt:47:34
 array-copy-out-fast-along-5 : tie.Need-array-copy-out-fast-along-5
 array-copy-out-fast-along-5 c = search needs
 
--- src/fast.rt:47:43
 array-copy-out-fast-along-6 : tie.Need-array-copy-out-fast-along-6
 array-copy-out-fast-along-6 c = search needs
 
--- src/fast.rt:47:13
 fast-along-requires-3 : tie.Need-fast-along-requires-3
 fast-along-requires-3 c κs = (within-bits 2097152 tt tt (c .before .before .before .before .before .before .before .before .before .before .pre .from .z), within-bits 2097152 tt tt (c .before .before .before .before .before .before .before .before .before .before .pre .direction .z))
 
--- src/fast.rt:48:37
 nearest-requires : tie.Need-nearest-requires
 nearest-requires c κs = (within-bits 9007199254740992 tt tt (c .before .before .before .before .before .before .before .before .before .before .before .before .pre .length) .abs, lit< tt, lit≤ tt)
 
--- src/fast.rt:48:13
 clamp-requires : tie.Need-clamp-requires
 clamp-requires c κs = search needs
 
--- src/fast.rt:49:13
 near-requires : tie.Need-near-requires
 near-requires c κs = within-bits 2097152 tt tt (c .before .before .before .before .before .before .before .before .before .before .before .before .before .before .before .pre .start)
 
--- src/fast.rt:50:22
 near-requires-2 : tie.Need-near-requires-2
 near-requires-2 c κs = within-bits 2097152 tt tt (c .before .before .before .before .before .before .before .before .before .before .before .before .before .before .before .before .before .pre .end)
 
--- src/fast.rt:39:5
 returns : tie.Need-returns
 unfolding linearFast
 returns c =

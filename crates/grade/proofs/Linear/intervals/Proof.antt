@@ -17,35 +17,27 @@ use Rattle.grade.proofs.intervals.units.Reads as units-reads
 use Rattle.interval.proofs.Interval.from_rational.Reads as from-rational-reads
 use Rattle.interval.proofs.Interval.sub.Reads as sub-reads
 
--- src/intervals.rt:61:13
 unit-requires : tie.Need-unit-requires
 unit-requires c κs = within-bits 2097152 tt tt (c .before .before .before .pre .start)
 
--- src/intervals.rt:63:19
 units-requires : tie.Need-units-requires
 units-requires c κs = search needs
 
--- src/intervals.rt:64:24
 units-requires-2 : tie.Need-units-requires-2
 units-requires-2 c κs = search needs
 
--- src/intervals.rt:65:24
 from-rational-requires : tie.Need-from-rational-requires
 from-rational-requires c κs = (within-bits 9007199254740992 tt tt (c .before .before .before .before .before .before .before .pre .length) .abs, lit< tt, lit≤ tt)
 
--- src/intervals.rt:67:19
 unit-requires-2 : tie.Need-unit-requires-2
 unit-requires-2 c κs = within-bits 2097152 tt tt (c .before .before .before .before .before .before .before .before .before .pre .end)
 
--- src/intervals.rt:67:19
 sub-requires : tie.Need-sub-requires
 sub-requires c κs = search needs
 
--- src/intervals.rt:68:20
 slopes-requires : tie.Need-slopes-requires
 slopes-requires c κs = search needs
 
--- src/intervals.rt:55:5
 returns : tie.Need-returns
 unfolding linearIntervals
 returns c =

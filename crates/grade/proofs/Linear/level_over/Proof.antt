@@ -10,19 +10,15 @@ use Rattle.grade.proofs.Linear.level_over.Reads as reads
 use Rattle.grade.proofs.Linear.level_over.Lts as lts
 use Rattle.grade.proofs.ramp.held.Reads as held-reads
 
--- src/ramp.rt:92:9
 mul-result : tie.Need-mul-result
 mul-result c = fits tt (mul (bit tt (is (c .before .before .before .pre .0 .start))) (bit tt (is (c .before .before .before .pre .0 .length))))
 
--- src/ramp.rt:92:26
 held-requires : tie.Need-held-requires
 held-requires c κs = search needs
 
--- src/ramp.rt:92:40
 sub-result : tie.Need-sub-result
 sub-result c = fits tt (sub (bit tt (is (c .before .before .before .before .before .before .pre .0 .end))) (bit tt (is (c .before .before .before .before .before .before .pre .0 .start))))
 
--- src/ramp.rt:92:26
 mul-result-2 : tie.Need-mul-result-2
 mul-result-2 c =
     let g = c .before .before .before .before .before .before .pre .0 in
@@ -31,7 +27,6 @@ mul-result-2 c =
     let h = bit tt (got (c .before .before .held .ensures ∙ ap₂ held (t .same) (l .same)) (held-within (t .within) (l .within))) in
     fits tt (mul h (bit tt (sub (bit tt (is (g .end))) (bit tt (is (g .start))))))
 
--- src/ramp.rt:92:9
 add-result : tie.Need-add-result
 add-result c =
     let g = c .before .before .before .before .before .before .pre .0 in
@@ -41,7 +36,6 @@ add-result c =
     let h = bit tt (got (c .before .before .held .ensures ∙ ap₂ held (t .same) (l .same)) (held-within (t .within) (l .within))) in
     fits tt (add (bit tt (mul s l)) (bit tt (mul h (bit tt (sub (bit tt (is (g .end))) s)))))
 
--- src/ramp.rt:87:5
 returns : tie.Need-returns
 unfolding levelOver
 returns c =

@@ -13,18 +13,15 @@ use Rattle.grade.proofs.Linear.new.Lts as lts
 use Rattle.grade.proofs.vector.dot.Reads as dot-reads
 use Rattle.grade.proofs.vector.minus.Reads as minus-reads
 
--- src/ramp.rt:64:13
 minus-requires : tie.Need-minus-requires
 minus-requires c κs = search needs
 
--- src/ramp.rt:68:24
 dot-requires : tie.Need-dot-requires
 dot-requires c κs =
     let p = c .before .pre in
     let w = subst⁻¹ (Within3 2097152) (c .minus .ensures) (minus-within (p .1) (p .0)) in
     (w, w)
 
--- src/ramp.rt:60:5
 returns : tie.Need-returns
 unfolding linearOf
 returns c =

@@ -12,31 +12,25 @@ use Rattle.grade.proofs.Linear.at_corner.Reads as at-corner-reads
 use Rattle.grade.proofs.Linear.level_over.Reads as level-over-reads
 use Rattle.grade.proofs.ramp.ordered.Reads as ordered-reads
 
--- src/ramp.rt:99:33
 at-corner-requires : tie.Need-at-corner-requires
 at-corner-requires c κs = search needs
 
--- src/ramp.rt:99:13
 level-over-requires : tie.Need-level-over-requires
 level-over-requires c κs =
     let p = c .before .pre in
     (p .0, asked tt (bit tt (got (c .at-corner .ensures) (at-corner-within (c .before .args .self) (p .0) (p .1 .0) (p .1 .1)))))
 
--- src/ramp.rt:100:33
 at-corner-requires-2 : tie.Need-at-corner-requires-2
 at-corner-requires-2 c κs = search needs
 
--- src/ramp.rt:100:13
 level-over-requires-2 : tie.Need-level-over-requires-2
 level-over-requires-2 c κs =
     let p = c .before .before .before .pre in
     (p .0, asked tt (bit tt (got (c .at-corner2 .ensures) (at-corner-within (c .before .before .before .args .self) (p .0) (p .1 .1) (p .1 .0)))))
 
--- src/ramp.rt:101:9
 ordered-requires : tie.Need-ordered-requires
 ordered-requires c κs = search needs
 
--- src/ramp.rt:95:5
 returns : tie.Need-returns
 unfolding linearRange
 returns c =

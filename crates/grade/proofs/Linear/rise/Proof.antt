@@ -9,15 +9,12 @@ use Rattle.grade.proofs.Linear.rise.Reads as reads
 use Rattle.grade.proofs.Linear.rise.Lts as lts
 use Rattle.grade.proofs.certified.size.Reads as size-reads
 
--- src/certified.rt:74:14
 sub-size : tie.Need-sub-size
 sub-size c = fits tt (sub (bit tt (is (c .before .before .pre .end))) (bit tt (is (c .before .before .pre .start))))
 
--- src/certified.rt:74:9
 size-requires : tie.Need-size-requires
 size-requires c κs = asked tt (bit tt (sub (bit tt (is (c .before .before .pre .end))) (bit tt (is (c .before .before .pre .start)))))
 
--- src/certified.rt:70:5
 returns : tie.Need-returns
 unfolding rise
 returns c =

@@ -20,22 +20,18 @@ use Rattle.interval.proofs.Interval.from_rational.Reads as from-rational-reads
 suc-le : {m n : ℕ} → m ≤ n → suc m ≤ suc n
 suc-le h = omega arith
 
--- src/intervals.rt:41:38
 sub-from-rational : tie.Need-sub-from-rational
 sub-from-rational c = fits tt (sub (bit tt (is (c .before .before .pre .0 .end))) (bit tt (is (c .before .before .pre .0 .start))))
 
--- src/intervals.rt:41:33
 mul-from-rational : tie.Need-mul-from-rational
 mul-from-rational c = fits tt (mul (bit tt (is (c .before .before .pre .1))) (bit tt (sub (bit tt (is (c .before .before .pre .0 .end))) (bit tt (is (c .before .before .pre .0 .start))))))
 
--- src/intervals.rt:41:62
 cast-from-rational : tie.Need-cast-from-rational
 cast-from-rational c =
     let p = c .before .before .before .before .pre .0 in
     let l = bit tt (is (p .length)) .same in
     (subst⁻¹ (λ (z : ℤ). T (nonNeg z)) l (yes-nonNeg (<ℤ-le (p .apart))), record { fits = le-trans (suc-le (asked {n = 13194139533312} tt (bit tt (is (p .length))) .abs)) (lit≤ tt) })
 
--- src/intervals.rt:41:9
 from-rational-requires : tie.Need-from-rational-requires
 from-rational-requires c κs =
     let p = c .before .before .before .before .pre .0 in
@@ -43,7 +39,6 @@ from-rational-requires c κs =
     let l = bit tt (is (p .length)) in
     (asked tt n .abs, subst⁻¹ (λ (z : ℤ). 0 < natAbs z) (l .same) (size-above (p .apart)), asked tt l .abs)
 
--- src/intervals.rt:37:5
 returns : tie.Need-returns
 returns c =
     let p = c .before .before .before .before .before .pre .0 in

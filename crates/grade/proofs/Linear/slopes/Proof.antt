@@ -10,31 +10,24 @@ use Rattle.grade.proofs.Linear.slopes.Reads as reads
 use Rattle.grade.proofs.Linear.slopes.Lts as lts
 use Rattle.grade.proofs.Linear.slope_along.Reads as slope-along-reads
 
--- src/intervals.rt:49:34
 array-copy-out-slope-along : tie.Need-array-copy-out-slope-along
 array-copy-out-slope-along c = search needs
 
--- src/intervals.rt:49:13
 slope-along-requires : tie.Need-slope-along-requires
 slope-along-requires c κs = search needs
 
--- src/intervals.rt:50:34
 array-copy-out-slope-along-2 : tie.Need-array-copy-out-slope-along-2
 array-copy-out-slope-along-2 c = search needs
 
--- src/intervals.rt:50:13
 slope-along-requires-2 : tie.Need-slope-along-requires-2
 slope-along-requires-2 c κs = search needs
 
--- src/intervals.rt:51:34
 array-copy-out-slope-along-3 : tie.Need-array-copy-out-slope-along-3
 array-copy-out-slope-along-3 c = search needs
 
--- src/intervals.rt:51:13
 slope-along-requires-3 : tie.Need-slope-along-requires-3
 slope-along-requires-3 c κs = search needs
 
--- src/intervals.rt:44:5
 returns : tie.Need-returns
 returns c =
     let g = c .before .before .before .before .before .before .before .args .self in

@@ -8,31 +8,24 @@ use Rattle.grade.proofs.LinearIntervals.along_axis.Lts as lts
 use Rattle.interval.proofs.Interval.mul.Reads as mul-reads
 use Rattle.interval.proofs.Interval.sub.Reads as sub-reads
 
--- src/intervals.rt:93:15
 mul-sub : tie.Need-mul-sub
 mul-sub c = search needs
 
--- src/intervals.rt:93:15
 element-copy-out-sub : tie.Need-element-copy-out-sub
 element-copy-out-sub c = search needs
 
--- src/intervals.rt:93:9
 sub-requires : tie.Need-sub-requires
 sub-requires c κs = search needs
 
--- src/intervals.rt:93:33
 mul-mul : tie.Need-mul-mul
 mul-mul c = search needs
 
--- src/intervals.rt:93:33
 element-copy-out-mul : tie.Need-element-copy-out-mul
 element-copy-out-mul c = search needs
 
--- src/intervals.rt:93:9
 mul-requires : tie.Need-mul-requires
 mul-requires c κs = search needs
 
--- src/intervals.rt:89:5
 returns : tie.Need-returns
 unfolding alongAxis
 returns c = cc

@@ -8,35 +8,27 @@ use Rattle.grade.proofs.LinearIntervals.interval_parameter.Lts as lts
 use Rattle.grade.proofs.LinearIntervals.along_axis.Reads as along-axis-reads
 use Rattle.grade.proofs.LinearIntervals.parameter_of.Reads as parameter-of-reads
 
--- src/intervals.rt:106:36
 array-copy-out-along-axis : tie.Need-array-copy-out-along-axis
 array-copy-out-along-axis c = search needs
 
--- src/intervals.rt:106:13
 along-axis-requires : tie.Need-along-axis-requires
 along-axis-requires c κs = search needs
 
--- src/intervals.rt:107:36
 array-copy-out-along-axis-2 : tie.Need-array-copy-out-along-axis-2
 array-copy-out-along-axis-2 c = search needs
 
--- src/intervals.rt:107:13
 along-axis-requires-2 : tie.Need-along-axis-requires-2
 along-axis-requires-2 c κs = search needs
 
--- src/intervals.rt:108:36
 array-copy-out-along-axis-3 : tie.Need-array-copy-out-along-axis-3
 array-copy-out-along-axis-3 c = search needs
 
--- src/intervals.rt:108:13
 along-axis-requires-3 : tie.Need-along-axis-requires-3
 along-axis-requires-3 c κs = search needs
 
--- src/intervals.rt:109:9
 parameter-of-requires : tie.Need-parameter-of-requires
 parameter-of-requires c κs = search needs
 
--- src/intervals.rt:103:5
 returns : tie.Need-returns
 unfolding parameter
 returns c = cc

@@ -8,15 +8,12 @@ use Rattle.grade.proofs.LinearIntervals.level_of.Lts as lts
 use Rattle.interval.proofs.Interval.add.Reads as add-reads
 use Rattle.interval.proofs.Interval.mul.Reads as mul-reads
 
--- src/intervals.rt:116:24
 mul-requires : tie.Need-mul-requires
 mul-requires c κs = search needs
 
--- src/intervals.rt:116:9
 add-requires : tie.Need-add-requires
 add-requires c κs = search needs
 
--- src/intervals.rt:113:5
 returns : tie.Need-returns
 unfolding levelOf
 returns c = cc

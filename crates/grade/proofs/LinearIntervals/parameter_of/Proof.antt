@@ -9,27 +9,21 @@ use Rattle.interval.proofs.Interval.add.Reads as add-reads
 use Rattle.interval.proofs.Interval.div.Reads as div-reads
 use Rattle.interval.proofs.Interval.point.Reads as point-reads
 
--- src/intervals.rt:100:9
 point-requires : tie.Need-point-requires
 point-requires c κs = search needs
 
--- src/intervals.rt:100:9
 add-requires : tie.Need-add-requires
 add-requires c κs = search needs
 
--- src/intervals.rt:100:9
 add-requires-2 : tie.Need-add-requires-2
 add-requires-2 c κs = search needs
 
--- src/intervals.rt:100:9
 add-requires-3 : tie.Need-add-requires-3
 add-requires-3 c κs = search needs
 
--- src/intervals.rt:100:9
 div-requires : tie.Need-div-requires
 div-requires c κs = search needs
 
--- src/intervals.rt:97:5
 returns : tie.Need-returns
 unfolding parameterOf
 returns c = cc

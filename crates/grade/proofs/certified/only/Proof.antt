@@ -8,21 +8,17 @@ use Rattle.grade.proofs.certified.only.Statement.{statement}
 use Rattle.grade.proofs.certified.only.Tie as tie
 use Rattle.grade.proofs.certified.only.Reads as reads
 use Rattle.grade.proofs.certified.only.Lts as lts
-use Rattle.grade.proofs.vector.equal.Reads as equal-reads
+use Rattle.grade.proofs.limits.equal.Reads as equal-reads
 
--- src/certified.rt:20:6
 equal-requires : tie.Need-equal-requires
 equal-requires c κs = search needs
 
--- src/certified.rt:20:20
 equal-requires-2 : tie.Need-equal-requires-2
 equal-requires-2 c κs = search needs
 
--- src/certified.rt:20:34
 equal-requires-3 : tie.Need-equal-requires-3
 equal-requires-3 c κs = search needs
 
--- src/certified.rt:17:1
 returns : tie.Need-returns
 returns c =
     let a = heard (λ z. eqZ z (pos 0)) (c .before .before .before .fits .a) (c .before .before .equal .ensures) in

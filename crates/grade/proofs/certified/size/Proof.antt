@@ -10,17 +10,14 @@ use Rattle.grade.proofs.certified.size.Tie as tie
 use Rattle.grade.proofs.certified.size.Reads as reads
 use Rattle.grade.proofs.certified.size.Lts as lts
 
--- src/certified.rt:27:16
 sub-result : tie.Need-sub-result
 sub-result c = fits tt (sub (is (within-zero 0)) (bit tt (is (c .before .pre))))
 
--- src/certified.rt:23:1
 returns : tie.Need-returns
 returns c =
     let t : ltZ (c .before .args .x) (pos 0) ≡ true = plain ltZ (c .before .fits .x) zero-fits (c .if1 .taken) in
     bit tt (sub (is (within-zero 0)) (bit tt (is (c .before .pre)))) .same ∙ rw t
 
--- src/certified.rt:23:1
 returns-2 : tie.Need-returns-2
 returns-2 c =
     let t : ltZ (c .before .args .x) (pos 0) ≡ false = plain ltZ (c .before .fits .x) zero-fits (c .if1 .left) in

@@ -4,15 +4,12 @@ use Rattle.grade.proofs.fast.clamp.Tie as tie
 use Rattle.grade.proofs.fast.clamp.Reads as reads
 use Rattle.grade.proofs.fast.clamp.Lts as lts
 
--- src/fast.rt:23:9
 returns : tie.Need-returns
 returns c = simp (c .if1 .taken)
 
--- src/fast.rt:26:9
 returns-2 : tie.Need-returns-2
 returns-2 c = simp (c .if2 .taken, c .before .if1 .left)
 
--- src/fast.rt:19:1
 returns-3 : tie.Need-returns-3
 returns-3 c = simp (c .if2 .left, c .before .if1 .left)
 

@@ -9,15 +9,12 @@ use Rattle.grade.proofs.fast.fast_along.Reads as reads
 use Rattle.grade.proofs.fast.fast_along.Lts as lts
 use Rattle.grade.proofs.fast.near.Reads as near-reads
 
--- src/fast.rt:35:10
 near-requires : tie.Need-near-requires
 near-requires c κs = search needs
 
--- src/fast.rt:35:24
 near-requires-2 : tie.Need-near-requires-2
 near-requires-2 c κs = search needs
 
--- src/fast.rt:31:1
 returns : tie.Need-returns
 returns c =
     let f = heard near (c .before .before .fits .from) (c .before .near .ensures) in

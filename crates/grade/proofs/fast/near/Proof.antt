@@ -8,11 +8,9 @@ use Rattle.grade.proofs.fast.near.Reads as reads
 use Rattle.grade.proofs.fast.near.Lts as lts
 use Rattle.interval.proofs.nearest.nearest.Reads as nearest-reads
 
--- src/fast.rt:16:5
 nearest-requires : tie.Need-nearest-requires
 nearest-requires c κs = (within-bits 9007199254740992 tt tt (c .pre) .abs, lit< tt, lit≤ tt)
 
--- src/fast.rt:12:1
 returns : tie.Need-returns
 returns c = heard (λ z. nearest z 1024) (c .before .fits .z) (c .nearest .ensures)
 

@@ -7,11 +7,9 @@ use Rattle.grade.proofs.intervals.piece_of.Reads as reads
 use Rattle.grade.proofs.intervals.piece_of.Lts as lts
 use Rattle.grade.proofs.ramp.chosen.Reads as chosen-reads
 
--- src/intervals.rt:123:5
 chosen-requires : tie.Need-chosen-requires
 chosen-requires c κs = search needs
 
--- src/intervals.rt:120:1
 returns : tie.Need-returns
 unfolding pieceOf
 returns c = c .chosen .ensures

@@ -8,11 +8,9 @@ use Rattle.grade.proofs.intervals.unit.Reads as reads
 use Rattle.grade.proofs.intervals.unit.Lts as lts
 use Rattle.interval.proofs.Interval.from_rational.Reads as from-rational-reads
 
--- src/intervals.rt:22:5
 from-rational-requires : tie.Need-from-rational-requires
 from-rational-requires c κs = (within-bits 9007199254740992 tt tt (c .pre) .abs, lit< tt, lit≤ tt)
 
--- src/intervals.rt:18:1
 returns : tie.Need-returns
 returns c = heard (λ z. fromRational z 1024) (c .before .fits .z) (c .from-rational .ensures)
 

@@ -10,31 +10,24 @@ use Rattle.grade.proofs.intervals.units.Reads as reads
 use Rattle.grade.proofs.intervals.units.Lts as lts
 use Rattle.grade.proofs.intervals.unit.Reads as unit-reads
 
--- src/intervals.rt:29:18
 array-copy-out-unit : tie.Need-array-copy-out-unit
 array-copy-out-unit c = search needs
 
--- src/intervals.rt:29:9
 unit-requires : tie.Need-unit-requires
 unit-requires c κs = search needs
 
--- src/intervals.rt:30:18
 array-copy-out-unit-2 : tie.Need-array-copy-out-unit-2
 array-copy-out-unit-2 c = search needs
 
--- src/intervals.rt:30:9
 unit-requires-2 : tie.Need-unit-requires-2
 unit-requires-2 c κs = search needs
 
--- src/intervals.rt:31:18
 array-copy-out-unit-3 : tie.Need-array-copy-out-unit-3
 array-copy-out-unit-3 c = search needs
 
--- src/intervals.rt:31:9
 unit-requires-3 : tie.Need-unit-requires-3
 unit-requires-3 c κs = search needs
 
--- src/intervals.rt:25:1
 returns : tie.Need-returns
 returns c =
     let p = c .before .before .before .before .before .before .pre in

@@ -10,31 +10,24 @@ use Rattle.grade.proofs.limits.ticks.Reads as reads
 use Rattle.grade.proofs.limits.ticks.Lts as lts
 use Rattle.grade.proofs.limits.tick.Reads as tick-reads
 
--- src/limits.rt:21:10
 array-copy-out-tick : tie.Need-array-copy-out-tick
 array-copy-out-tick c = search needs
 
--- src/limits.rt:21:5
 tick-requires : tie.Need-tick-requires
 tick-requires c κs = search needs
 
--- src/limits.rt:21:23
 array-copy-out-tick-2 : tie.Need-array-copy-out-tick-2
 array-copy-out-tick-2 c = search needs
 
--- src/limits.rt:21:18
 tick-requires-2 : tie.Need-tick-requires-2
 tick-requires-2 c κs = search needs
 
--- src/limits.rt:21:36
 array-copy-out-tick-3 : tie.Need-array-copy-out-tick-3
 array-copy-out-tick-3 c = search needs
 
--- src/limits.rt:21:31
 tick-requires-3 : tie.Need-tick-requires-3
 tick-requires-3 c κs = search needs
 
--- src/limits.rt:18:1
 returns : tie.Need-returns
 returns c =
     let v = c .before .before .before .before .before .before .args .t1 in

@@ -5,19 +5,15 @@ use Rattle.grade.proofs.ramp.chosen.Tie as tie
 use Rattle.grade.proofs.ramp.chosen.Reads as reads
 use Rattle.grade.proofs.ramp.chosen.Lts as lts
 
--- src/ramp.rt:31:9
 returns : tie.Need-returns
 returns c = simp (c .if1 .taken)
 
--- src/ramp.rt:34:9
 returns-2 : tie.Need-returns-2
 returns-2 c = simp (c .if2 .taken, c .before .if1 .left)
 
--- src/ramp.rt:37:9
 returns-3 : tie.Need-returns-3
 returns-3 c = simp (c .if3 .taken, c .before .if2 .left, c .before .before .if1 .left)
 
--- src/ramp.rt:27:1
 returns-4 : tie.Need-returns-4
 returns-4 c = search needs
 

@@ -9,20 +9,17 @@ use Rattle.grade.proofs.ramp.held.Tie as tie
 use Rattle.grade.proofs.ramp.held.Reads as reads
 use Rattle.grade.proofs.ramp.held.Lts as lts
 
--- src/ramp.rt:18:9
 returns : tie.Need-returns
 returns c =
     let t : ltZ (c .before .args .t) (pos 0) ≡ true = plain ltZ (c .before .fits .t) zero-fits (c .if1 .taken) in
     rw t
 
--- src/ramp.rt:21:9
 returns-2 : tie.Need-returns-2
 returns-2 c =
     let t : ltZ (c .before .before .args .t) (pos 0) ≡ false = plain ltZ (c .before .before .fits .t) zero-fits (c .before .if1 .left) in
     let u : ltZ (c .before .before .args .l) (c .before .before .args .t) ≡ true = plain ltZ (c .before .before .fits .l) (c .before .before .fits .t) (c .if2 .taken) in
     back (c .before .before .fits .l) ∙ rw (t, u)
 
--- src/ramp.rt:14:1
 returns-3 : tie.Need-returns-3
 returns-3 c =
     let t : ltZ (c .before .before .args .t) (pos 0) ≡ false = plain ltZ (c .before .before .fits .t) zero-fits (c .before .if1 .left) in

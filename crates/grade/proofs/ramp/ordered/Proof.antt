@@ -8,13 +8,11 @@ use Rattle.grade.proofs.ramp.ordered.Tie as tie
 use Rattle.grade.proofs.ramp.ordered.Reads as reads
 use Rattle.grade.proofs.ramp.ordered.Lts as lts
 
--- src/ramp.rt:46:9
 returns : tie.Need-returns
 returns c =
     let t : ltZ (c .before .args .b) (c .before .args .a) ≡ true = plain ltZ (c .before .fits .b) (c .before .fits .a) (c .if1 .taken) in
     rw (back (c .before .fits .a), back (c .before .fits .b), back (c .before .fits .over), t)
 
--- src/ramp.rt:42:1
 returns-2 : tie.Need-returns-2
 returns-2 c =
     let t : ltZ (c .before .args .b) (c .before .args .a) ≡ false = plain ltZ (c .before .fits .b) (c .before .fits .a) (c .if1 .left) in

@@ -1,9 +1,12 @@
+use Rattle.grade.proofs.RangeLaws.{range-holds}
+use Rattle.grade.specs.Holds.{RangeHolds}
+use Rattle.grade.specs.Exact.{range}
 use Rattle.grade.specs.Calls.{rangeValues}
 use borrow.Author.Tests.{ne-eqb}
 -- The refusals say what the calls behind them ask. Assumes nothing.
 use Rattle.grade.proofs.Accepted.{accepted, compiled-fits}
 use Rattle.grade.specs.Fits.{DefFits}
-use mathlib.Core.Path.{_≡_, sym, _∙_, subst⁻¹}
+use mathlib.Core.Path.{_≡_, sym, ap, _∙_, subst⁻¹}
 use borrow.Author.Needs.{needs}
 use Rattle.grade.proofs.range.grade_range.Statement.{statement}
 use Rattle.grade.proofs.range.grade_range.Tie as tie
@@ -13,33 +16,32 @@ use Rattle.grade.proofs.Grade.range_refusal.Reads as range-refusal-read
 use Rattle.grade.proofs.GradeDef.compile.Reads as compile-reads
 use Rattle.grade.proofs.GradeDef.range.Reads as range-reads
 
--- src/range.rt:12:9
 range-refusal-requires : tie.Need-range-refusal-requires
 range-refusal-requires c κs = search needs
 
--- src/range.rt:14:9
 returns : tie.Need-returns
 unfolding rangeValues
 returns c =
     let e = c .before .range-refusal .ensures in
-    (e, sym (rw (sym e, ne-eqb _ _ (c .if1 .taken))))
+    ((e, sym (rw (sym e, ne-eqb _ _ (c .if1 .taken)))), tt)
 
--- src/range.rt:16:9
 compile-requires : tie.Need-compile-requires
 compile-requires c κs = accepted _ _ _ (sym (c .before .range-refusal .ensures) ∙ c .if1 .left) .limits
 
--- src/range.rt:17:24
 range-requires : tie.Need-range-requires
 range-requires c κs =
     let a = accepted (c .before .before .before .args .grade) (c .before .before .before .args .lo) (c .before .before .before .args .hi) (sym (c .before .before .range-refusal .ensures) ∙ c .before .if1 .left) in
     (subst⁻¹ DefFits (c .compile .ensures) (compiled-fits (c .before .before .before .args .grade) (a .limits) (a .apart)), (a .low, a .high))
 
--- src/range.rt:9:1
 returns-2 : tie.Need-returns-2
 unfolding rangeValues
 returns-2 c =
+    let g = c .before .before .before .before .args .grade in
+    let lo = c .before .before .before .before .args .lo in
+    let hi = c .before .before .before .before .args .hi in
     let e = sym (c .before .before .before .range-refusal .ensures) ∙ c .before .before .if1 .left in
-    (sym e, rw (e, c .range .ensures, c .before .compile .ensures))
+    let b = c .range .ensures ∙ ap (λ d. range d lo hi) (c .before .compile .ensures) in
+    ((sym e, rw (e, b)), subst⁻¹ (RangeHolds g lo hi) b (range-holds g lo hi (accepted g lo hi e .apart)))
 
 pub grade-range-spec : {M : Type 1} → statement M
 grade-range-spec =

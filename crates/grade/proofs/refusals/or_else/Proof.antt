@@ -5,11 +5,9 @@ use Rattle.grade.proofs.refusals.or_else.Tie as tie
 use Rattle.grade.proofs.refusals.or_else.Reads as reads
 use Rattle.grade.proofs.refusals.or_else.Lts as lts
 
--- src/refusals.rt:16:1
 returns : tie.Need-returns
 returns c = simp (c .if1 .taken)
 
--- src/refusals.rt:16:1
 returns-2 : tie.Need-returns-2
 returns-2 c = simp (ne-eqb _ _ (c .if1 .left))
 

@@ -23,55 +23,42 @@ picked d a b {r} fd fa fb e = back (subst⁻¹ (SFits w64) same (choose (ltZ (po
     same : r ≡ toward d a b
     same = e ∙ (λ k. toward (back fd k) (back fa k) (back fb k))
 
--- src/vector.rt:32:20
 array-copy-out-toward : tie.Need-array-copy-out-toward
 array-copy-out-toward c = search needs
 
--- src/vector.rt:32:26
 array-copy-out-toward-2 : tie.Need-array-copy-out-toward-2
 array-copy-out-toward-2 c = search needs
 
--- src/vector.rt:32:32
 array-copy-out-toward-3 : tie.Need-array-copy-out-toward-3
 array-copy-out-toward-3 c = search needs
 
--- src/vector.rt:32:9
 toward-requires : tie.Need-toward-requires
 toward-requires c κs = search needs
 
--- src/vector.rt:33:20
 array-copy-out-toward-4 : tie.Need-array-copy-out-toward-4
 array-copy-out-toward-4 c = search needs
 
--- src/vector.rt:33:26
 array-copy-out-toward-5 : tie.Need-array-copy-out-toward-5
 array-copy-out-toward-5 c = search needs
 
--- src/vector.rt:33:32
 array-copy-out-toward-6 : tie.Need-array-copy-out-toward-6
 array-copy-out-toward-6 c = search needs
 
--- src/vector.rt:33:9
 toward-requires-2 : tie.Need-toward-requires-2
 toward-requires-2 c κs = search needs
 
--- src/vector.rt:34:20
 array-copy-out-toward-7 : tie.Need-array-copy-out-toward-7
 array-copy-out-toward-7 c = search needs
 
--- src/vector.rt:34:26
 array-copy-out-toward-8 : tie.Need-array-copy-out-toward-8
 array-copy-out-toward-8 c = search needs
 
--- src/vector.rt:34:32
 array-copy-out-toward-9 : tie.Need-array-copy-out-toward-9
 array-copy-out-toward-9 c = search needs
 
--- src/vector.rt:34:9
 toward-requires-3 : tie.Need-toward-requires-3
 toward-requires-3 c κs = search needs
 
--- src/vector.rt:29:1
 returns : tie.Need-returns
 unfolding corner
 returns c =

@@ -7,31 +7,24 @@ use Rattle.grade.proofs.vector.dot.Tie as tie
 use Rattle.grade.proofs.vector.dot.Reads as reads
 use Rattle.grade.proofs.vector.dot.Lts as lts
 
--- src/vector.rt:19:5
 array-copy-out-result : tie.Need-array-copy-out-result
 array-copy-out-result c = search needs
 
--- src/vector.rt:19:12
 array-copy-out-result-2 : tie.Need-array-copy-out-result-2
 array-copy-out-result-2 c = search needs
 
--- src/vector.rt:19:5
 mul-result : tie.Need-mul-result
 mul-result c = fits tt (mul (bit tt (is (c .before .before .pre .0 .x))) (bit tt (is (c .before .before .pre .1 .x))))
 
--- src/vector.rt:19:19
 array-copy-out-result-3 : tie.Need-array-copy-out-result-3
 array-copy-out-result-3 c = search needs
 
--- src/vector.rt:19:26
 array-copy-out-result-4 : tie.Need-array-copy-out-result-4
 array-copy-out-result-4 c = search needs
 
--- src/vector.rt:19:19
 mul-result-2 : tie.Need-mul-result-2
 mul-result-2 c = fits tt (mul (bit tt (is (c .before .before .before .before .pre .0 .y))) (bit tt (is (c .before .before .before .before .pre .1 .y))))
 
--- src/vector.rt:19:5
 add-result : tie.Need-add-result
 add-result c =
     let a = c .before .before .before .before .pre .0 in
@@ -40,19 +33,15 @@ add-result c =
     let y = bit tt (mul (bit tt (is (a .y))) (bit tt (is (b .y)))) in
     fits tt (add x y)
 
--- src/vector.rt:19:33
 array-copy-out-result-5 : tie.Need-array-copy-out-result-5
 array-copy-out-result-5 c = search needs
 
--- src/vector.rt:19:40
 array-copy-out-result-6 : tie.Need-array-copy-out-result-6
 array-copy-out-result-6 c = search needs
 
--- src/vector.rt:19:33
 mul-result-3 : tie.Need-mul-result-3
 mul-result-3 c = fits tt (mul (bit tt (is (c .before .before .before .before .before .before .pre .0 .z))) (bit tt (is (c .before .before .before .before .before .before .pre .1 .z))))
 
--- src/vector.rt:19:5
 add-result-2 : tie.Need-add-result-2
 add-result-2 c =
     let a = c .before .before .before .before .before .before .pre .0 in
@@ -62,7 +51,6 @@ add-result-2 c =
     let z = bit tt (mul (bit tt (is (a .z))) (bit tt (is (b .z)))) in
     fits tt (add (bit tt (add x y)) z)
 
--- src/vector.rt:15:1
 returns : tie.Need-returns
 unfolding dot
 returns c =

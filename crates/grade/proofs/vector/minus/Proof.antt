@@ -8,43 +8,33 @@ use Rattle.grade.proofs.vector.minus.Tie as tie
 use Rattle.grade.proofs.vector.minus.Reads as reads
 use Rattle.grade.proofs.vector.minus.Lts as lts
 
--- src/vector.rt:12:6
 array-copy-out-t7 : tie.Need-array-copy-out-t7
 array-copy-out-t7 c = search needs
 
--- src/vector.rt:12:13
 array-copy-out-t10 : tie.Need-array-copy-out-t10
 array-copy-out-t10 c = search needs
 
--- src/vector.rt:12:6
 sub-t11 : tie.Need-sub-t11
 sub-t11 c = fits tt (sub (bit tt (is (c .before .before .pre .0 .x))) (bit tt (is (c .before .before .pre .1 .x))))
 
--- src/vector.rt:12:19
 array-copy-out-t14 : tie.Need-array-copy-out-t14
 array-copy-out-t14 c = search needs
 
--- src/vector.rt:12:26
 array-copy-out-t17 : tie.Need-array-copy-out-t17
 array-copy-out-t17 c = search needs
 
--- src/vector.rt:12:19
 sub-t18 : tie.Need-sub-t18
 sub-t18 c = fits tt (sub (bit tt (is (c .before .before .before .before .pre .0 .y))) (bit tt (is (c .before .before .before .before .pre .1 .y))))
 
--- src/vector.rt:12:32
 array-copy-out-t21 : tie.Need-array-copy-out-t21
 array-copy-out-t21 c = search needs
 
--- src/vector.rt:12:39
 array-copy-out-t24 : tie.Need-array-copy-out-t24
 array-copy-out-t24 c = search needs
 
--- src/vector.rt:12:32
 sub-t25 : tie.Need-sub-t25
 sub-t25 c = fits tt (sub (bit tt (is (c .before .before .before .before .before .before .pre .0 .z))) (bit tt (is (c .before .before .before .before .before .before .pre .1 .z))))
 
--- src/vector.rt:8:1
 returns : tie.Need-returns
 unfolding minus
 returns c =

@@ -9,13 +9,11 @@ use Rattle.grade.proofs.vector.toward.Tie as tie
 use Rattle.grade.proofs.vector.toward.Reads as reads
 use Rattle.grade.proofs.vector.toward.Lts as lts
 
--- src/vector.rt:22:1
 returns : tie.Need-returns
 returns c =
     let t : ltZ (pos 0) (c .before .args .d) ≡ true = plain ltZ zero-fits (c .before .fits .d) (c .if1 .taken) in
     back (c .before .fits .a) ∙ rw t
 
--- src/vector.rt:22:1
 returns-2 : tie.Need-returns-2
 returns-2 c =
     let t : ltZ (pos 0) (c .before .args .d) ≡ false = plain ltZ zero-fits (c .before .fits .d) (c .if1 .left) in

@@ -3,49 +3,39 @@ use mathlib.Core.Bool.{_&&_}
 use Rattle.grade.specs.Grade.{at, eqZ}
 use Rattle.exact.proofs.Signed.{heard₂}
 use borrow.Author.Needs.{needs}
-use Rattle.grade.proofs.vector.same.Statement.{statement}
-use Rattle.grade.proofs.vector.same.Tie as tie
-use Rattle.grade.proofs.vector.same.Reads as reads
-use Rattle.grade.proofs.vector.same.Lts as lts
-use Rattle.grade.proofs.vector.equal.Reads as equal-reads
+use Rattle.grade.proofs.limits.same.Statement.{statement}
+use Rattle.grade.proofs.limits.same.Tie as tie
+use Rattle.grade.proofs.limits.same.Reads as reads
+use Rattle.grade.proofs.limits.same.Lts as lts
+use Rattle.grade.proofs.limits.equal.Reads as equal-reads
 
--- src/vector.rt:47:11
 array-copy-out-equal : tie.Need-array-copy-out-equal
 array-copy-out-equal c = search needs
 
--- src/vector.rt:47:17
 array-copy-out-equal-2 : tie.Need-array-copy-out-equal-2
 array-copy-out-equal-2 c = search needs
 
--- src/vector.rt:47:5
 equal-requires : tie.Need-equal-requires
 equal-requires c κs = search needs
 
--- src/vector.rt:47:31
 array-copy-out-equal-3 : tie.Need-array-copy-out-equal-3
 array-copy-out-equal-3 c = search needs
 
--- src/vector.rt:47:37
 array-copy-out-equal-4 : tie.Need-array-copy-out-equal-4
 array-copy-out-equal-4 c = search needs
 
--- src/vector.rt:47:25
 equal-requires-2 : tie.Need-equal-requires-2
 equal-requires-2 c κs = search needs
 
--- src/vector.rt:47:51
 array-copy-out-equal-5 : tie.Need-array-copy-out-equal-5
 array-copy-out-equal-5 c = search needs
 
--- src/vector.rt:47:57
 array-copy-out-equal-6 : tie.Need-array-copy-out-equal-6
 array-copy-out-equal-6 c = search needs
 
--- src/vector.rt:47:45
 equal-requires-3 : tie.Need-equal-requires-3
 equal-requires-3 c κs = search needs
 
--- src/vector.rt:44:1
 returns : tie.Need-returns
 returns c =
     let a = c .before .before .before .before .before .before .before .before .before .args .t1 in

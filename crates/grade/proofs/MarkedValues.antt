@@ -1,0 +1,21 @@
+-- Document 01's marked values (1) to (8), by computation. Assumes nothing.
+use mathlib.Core.Path.{refl}
+use Rattle.grade.specs.Grade.{inLimits, minus, dot}
+use Rattle.grade.specs.Exact.{linearOf, constantDef, compiled, corner, atCorner, levelOver, linearRange, range, linearPiece, exactPiece}
+use Rattle.grade.specs.Refusals.{rangeRefusal}
+use Rattle.grade.specs.Calls.{rangeValues}
+use Rattle.grade.specs.Marked.{Marked}
+
+pub marked : Marked
+unfolding inLimits minus dot linearOf constantDef compiled corner atCorner levelOver linearRange range linearPiece exactPiece rangeRefusal rangeValues
+marked = record {
+  length = refl;
+  one = (refl, refl);
+  two = (refl, refl);
+  three = (refl, refl);
+  four = refl;
+  five = refl;
+  six = refl;
+  seven = refl;
+  eight = refl;
+}
