@@ -1,14 +1,13 @@
 -- What an accepted level is: its entries are within the limits, its anchors apart, and so the compiled grade keeps the sizes that the
 -- layer's functions ask. Assumes nothing.
-use mathlib.Core.Path.{_≡_, refl, sym, subst}
+use mathlib.Core.Path.{_≡_, subst}
 use mathlib.Core.Bool.{Bool, true, false, cond, not, _&&_}
 use mathlib.Core.List.{List, [], _∷_}
 use Prim.Native.Nat.{ℕ, suc}
 use native.Mathlib.Omega.{arith}
 use lib.Dec.{T, T-not, eqb·suc-zero, lit≤}
 use lib.IntN.{ℤ, pos, _+ℤ_, _-ℤ_, _*ℤ_}
-use lib.Signed.{leZ, leZ-yes, ltZ-yes, _≤ℤ_, _<ℤ_, ≤ℤ-refl}
-use Rattle.exact.specs.Within.{Within}
+use lib.Signed.{leZ, ltZ-yes, _≤ℤ_, _<ℤ_, ≤ℤ-refl}
 use Rattle.exact.proofs.Choice.{choose}
 use Rattle.exact.proofs.Size.{within-zero}
 use Rattle.exact.proofs.IntegerOrder.{zarith, sum-parts, square-nonnegℤ, square-pos, sub-zero}
@@ -18,7 +17,7 @@ use Rattle.grade.specs.declared.LevelKind.{LevelKind}
 use Rattle.grade.specs.Grade.{at, ticks, inLimits, eqZ, isLinear, minus, dot, direction, lengthSq}
 use Rattle.grade.specs.Exact.{linearOf, numbers, constantDef, compiled}
 use Rattle.grade.specs.Refusals.{refused, _orElse_, above, same, isDistance, coincident, rangeRefusal}
-use Rattle.grade.specs.Fits.{Within3, InLimits, LinearFits, DefFits}
+use Rattle.grade.specs.Fits.{Within3, InLimits, DefFits}
 use Rattle.grade.proofs.Entries.{both, ticks-within, Sizes, sizes}
 use Rattle.grade.proofs.Sizes.{minus-within, dot-within}
 
@@ -116,14 +115,16 @@ zero3 n = record { x = within-zero n; y = within-zero n; z = within-zero n }
 pub compiled-fits : (g : Grade) → InLimits g → T (not (coincident g)) → DefFits (compiled g)
 unfolding linearOf constantDef
 compiled-fits g i t = by-kind g DefFits
-    (λ l. record { linear = record {
-      from = s .from;
-      direction = minus-within (s .to) (s .from);
-      length = dot-within (minus-within (s .to) (s .from)) (minus-within (s .to) (s .from));
-      apart = linear-apart g l t;
-      start = s .start;
-      end = s .end;
-    } })
+    (λ l. record {
+      linear = record {
+        from = s .from;
+        direction = minus-within (s .to) (s .from);
+        length = dot-within (minus-within (s .to) (s .from)) (minus-within (s .to) (s .from));
+        apart = linear-apart g l t;
+        start = s .start;
+        end = s .end;
+      };
+    })
     (λ _. record { linear = record { from = zero3 1048576; direction = zero3 2097152; length = record { abs = lit≤ tt }; apart = ltZ-yes tt; start = s .start; end = s .start } })
   where
     s : Sizes g

@@ -8,7 +8,7 @@ use native.Mathlib.Omega.{arith}
 use lib.Dec.{T, lit<}
 use lib.IntN.{ℤ, pos, _+ℤ_, _-ℤ_, _*ℤ_}
 use lib.Signed.{ltZ, ltZ-yes, ltZ-no, _≤ℤ_, _<ℤ_}
-use Rattle.exact.specs.Fraction.{Fraction, whole, _+F_, _-F_, _*F_, _≤F_, _≈F_}
+use Rattle.exact.specs.Fraction.{Fraction, whole, _-F_, _*F_, _≤F_, _≈F_}
 use Rattle.exact.proofs.IntegerOrder.{<ℤ-le}
 use Rattle.exact.proofs.Fraction.{≤F-refl, ≤F-trans, ≈F-refl, ≈F-trans, ≈F-le, ≈F-ge, add-monoF, sub-monoF, mul-monoF, mul-antiF, commF, add-congF, mul-congF, whole-add, whole-sub, whole-mul}
 use Rattle.grade.specs.declared.Linear.{Linear}

@@ -1,22 +1,19 @@
 -- The grade in intervals holds the grade: t, the level, its affine extension and its slope, at every rational point whose coordinates the
 -- box's intervals hold; and what the float piece says of them. Assumes nothing.
 use mathlib.Core.Path.{_≡_, refl, sym, subst}
-use mathlib.Core.Bool.{Bool, true, false, cond, not, _&&_}
+use mathlib.Core.Bool.{not, _&&_}
 use mathlib.Core.List.{List, [], _∷_}
 use Prim.Native.Nat.{ℕ, zero, suc, _+_, _*_, _^_, _≤_, _<_}
 use native.Mathlib.Nat.{le-trans}
 use native.Mathlib.Omega.{arith}
 use lib.Dec.{T, leb, le→leb, lit<, lit≤}
-use lib.IntN.{ℤ, pos, natAbs, _-ℤ_, _*ℤ_}
+use lib.IntN.{ℤ, pos, natAbs, _-ℤ_}
 use lib.Ieee.{Float, le}
 use lib.Signed.{leZ-yes, _<ℤ_}
-use Rattle.exact.specs.Within.{Within}
-use Rattle.exact.specs.Fraction.{Fraction, ratio, whole, zeroF, oneF, _+F_, _-F_, _*F_, _/F_, _≤F_, _≈F_, heldF}
-use Rattle.exact.proofs.Choice.{choose}
-use Rattle.exact.proofs.Size.{within-sub, within-mul}
-use Rattle.exact.proofs.Ring.{lit, _⊕_, _⊖_, _⊗_}
+use Rattle.exact.specs.Fraction.{Fraction, ratio, whole, zeroF, _+F_, _-F_, _*F_, _/F_, _≤F_, _≈F_}
+use Rattle.exact.proofs.Ring.{lit, _⊕_}
 use Rattle.exact.proofs.FractionRing.{ringF}
-use Rattle.exact.proofs.Fraction.{≤F-refl, ≤F-trans, ≈F-refl, ≈F-sym, ≈F-trans, ≈F-le, ≈F-ge, commF, add-congF, sub-congF, mul-congF, over-cong, over-add, over-sub, over-mul, over-product, over-times, over-whole, whole-sub}
+use Rattle.exact.proofs.Fraction.{≤F-trans, ≈F-refl, ≈F-sym, ≈F-trans, ≈F-le, ≈F-ge, commF, add-congF, mul-congF, over-cong, over-add, over-sub, over-mul, over-product, over-times, over-whole, whole-sub}
 use Rattle.interval.specs.declared.Interval.{Interval}
 use Rattle.interval.specs.Step.{b64}
 use Rattle.interval.specs.Interval.{clamp01}
@@ -27,19 +24,17 @@ use Rattle.interval.proofs.Encloses.{add-encloses, sub-encloses, mul-encloses, 
 use Rattle.interval.proofs.Quotient.{inversePower, div-encloses, fraction-apart}
 use Rattle.interval.proofs.Bounds.{clamp-encloses}
 use Rattle.grade.specs.declared.Grade.{Grade}
-use Rattle.grade.specs.declared.GradeDef.{GradeDef}
-use Rattle.grade.specs.declared.LevelKind.{LevelKind}
-use Rattle.grade.specs.Grade.{at, eqZ, isLinear, direction, lengthSq, Point, along, t, between, level}
+use Rattle.grade.specs.Grade.{at, direction, lengthSq, Point, along, t, between, level}
 use Rattle.grade.specs.Exact.{linearOf, numbers, constantDef, compiled}
 use Rattle.grade.specs.Refusals.{coincident}
 use Rattle.grade.specs.Fits.{Within3, InLimits}
-use Rattle.grade.specs.Intervals.{unit, units, slopes, linearIntervals, gradeIntervals, boxAt, alongAxis, parameterOf, parameter, levelOf, interval, affine, gradient, pieceOf, piece}
-use Rattle.grade.specs.Holds.{Says, SaysLevel, affineLevel, slope, inUnits}
+use Rattle.grade.specs.Intervals.{unit, units, linearIntervals, gradeIntervals, boxAt, alongAxis, parameterOf, parameter, levelOf, interval, affine, pieceOf, piece}
+use Rattle.grade.specs.Holds.{Says, SaysLevel, affineLevel, inUnits}
 use Rattle.grade.proofs.Entries.{both, Sizes, sizes}
 use Rattle.grade.proofs.Sizes.{minus-within, dot-within}
 use Rattle.grade.proofs.AxisLaws.{within-at}
 use Rattle.grade.proofs.Accepted.{linear-apart, by-kind}
-use Rattle.grade.proofs.LevelLaws.{between-cong, level-linear, level-flat, affine-linear, affine-flat, length-pos, length-is}
+use Rattle.grade.proofs.LevelLaws.{level-linear, level-flat, affine-linear, affine-flat, length-pos, length-is}
 use Rattle.grade.proofs.PieceLaws.{chosen-says, says-level}
 
 -- ---- a tick in millimetres, a level count as a level
@@ -152,7 +147,7 @@ module _ (g : Grade) (limits : InLimits g) (apart : T (not (coincident g))) wher
     unfolding interval gradeIntervals linearIntervals constantDef
     interval-encloses = by-kind g (λ G. In 100 (inUnits (level g p)) (interval (gradeIntervals G) w))
         (λ l. subst (λ (q : Fraction). In 100 (inUnits q) (levelOf (linearIntervals (numbers g)) (clamp01 (parameter (linearIntervals (numbers g)) w)))) (sym (level-linear g p l))
-          (wider 100 tt (level-of-encloses g (sizes g limits) (clamp-encloses (parameter-encloses g (sizes g limits) (linear-apart g l apart) p w holds)))))
+        (wider 100 tt (level-of-encloses g (sizes g limits) (clamp-encloses (parameter-encloses g (sizes g limits) (linear-apart g l apart) p w holds)))))
         (λ u. wider 100 tt (equal-in (over-cong (lit< tt) (≈F-sym (level-flat g p u))) (unit-encloses 2 (g .start) tt (sizes g limits .start .abs))))
 
     -- its affine extension
@@ -160,7 +155,7 @@ module _ (g : Grade) (limits : InLimits g) (apart : T (not (coincident g))) wher
     unfolding affine gradeIntervals linearIntervals constantDef
     affine-encloses = by-kind g (λ G. In 100 (inUnits (affineLevel g p)) (affine (gradeIntervals G) w))
         (λ l. subst (λ (q : Fraction). In 100 (inUnits q) (levelOf (linearIntervals (numbers g)) (parameter (linearIntervals (numbers g)) w))) (sym (affine-linear g p l))
-          (wider 100 tt (level-of-encloses g (sizes g limits) (parameter-encloses g (sizes g limits) (linear-apart g l apart) p w holds))))
+        (wider 100 tt (level-of-encloses g (sizes g limits) (parameter-encloses g (sizes g limits) (linear-apart g l apart) p w holds))))
         (λ u. wider 100 tt (equal-in (over-cong (lit< tt) (≈F-sym (affine-flat g p u))) (unit-encloses 2 (g .start) tt (sizes g limits .start .abs))))
 
     -- what the piece says of the level

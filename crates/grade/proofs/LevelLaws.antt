@@ -1,20 +1,20 @@
 -- The level as a fraction: constant where its ends are equal, monotone in the parameter, and at a whole numerator the level's numerator over L.
 -- Assumes nothing.
-use mathlib.Core.Path.{_≡_, refl, sym, ap, subst}
+use mathlib.Core.Path.{_≡_, refl, sym, subst}
 use mathlib.Core.Logic.{_⊎_, inl, inr}
 use mathlib.Core.Bool.{Bool, true, false, cond, not, _&&_}
-use mathlib.Core.List.{List, [], _∷_}
+use mathlib.Core.List.{[], _∷_}
 use Prim.Native.Nat.{ℕ, _<_}
 use lib.Dec.{T}
-use lib.IntN.{ℤ, pos, natAbs, _+ℤ_, _-ℤ_, _*ℤ_}
+use lib.IntN.{ℤ, pos, natAbs, _-ℤ_, _*ℤ_}
 use lib.Signed.{ltZ, leZ, ltZ-yes, ltZ-no, leZ-yes, _≤ℤ_, _<ℤ_, yes-nonNeg, pos-natAbs}
-use Rattle.exact.specs.Fraction.{Fraction, ratio, whole, zeroF, oneF, _+F_, _-F_, _*F_, _/F_, _≤F_, _≈F_, heldF}
+use Rattle.exact.specs.Fraction.{Fraction, whole, zeroF, oneF, _+F_, _*F_, _/F_, _≤F_, _≈F_, heldF}
 use Rattle.exact.proofs.Choice.{choose}
-use Rattle.exact.proofs.IntegerOrder.{le-or-lt, <ℤ-le, ≤ℤ-antisym, sub-nonneg, zarith, difference-parts}
+use Rattle.exact.proofs.IntegerOrder.{le-or-lt, <ℤ-le, ≤ℤ-antisym}
 use Rattle.exact.proofs.Ring.{lit, _⊕_, _⊖_, _⊗_, ring}
 use Rattle.exact.proofs.FractionRing.{ringF}
-use Rattle.exact.proofs.Fraction.{≤F-refl, ≤F-trans, ≈F-refl, ≈F-sym, ≈F-trans, ≈F-le, ≈F-ge, ≤F-antisym, add-monoF, mul-monoF, mul-antiF, commF, add-congF, mul-congF, over-mono, over-cong, over-self, over-zero, over-add, over-mul, whole-le, whole-add, whole-sub, whole-mul}
-use Rattle.exact.proofs.FractionSize.{held-low, held-high, held-between, held-mono}
+use Rattle.exact.proofs.Fraction.{≤F-refl, ≤F-trans, ≈F-refl, ≈F-sym, ≈F-trans, ≈F-le, ≈F-ge, add-monoF, mul-monoF, mul-antiF, commF, add-congF, mul-congF, over-mono, over-cong, over-self, over-zero, over-add, over-mul, whole-le, whole-add, whole-sub, whole-mul}
+use Rattle.exact.proofs.FractionSize.{held-low, held-high, held-between}
 use Rattle.grade.specs.declared.Grade.{Grade}
 use Rattle.grade.specs.Grade.{eqZ, isLinear, lengthSq, Point, t, between, level}
 use Rattle.grade.specs.Exact.{held, linearOf, numbers, levelOver}
@@ -28,10 +28,10 @@ between-cong g e = add-congF (≈F-refl (whole (g .start))) (mul-congF e (≈F-r
 
 -- either way round
 pub between-mono : (g : Grade) {x y z : Fraction} → x ≤F y → y ≤F z → ((between g x ≤F between g y) × (between g y ≤F between g z)) ⊎ ((between g z ≤F between g y) × (between g y ≤F between g x))
-between-mono g {x} {y} {z} h k = elim (le-or-lt (pos 0) (g .end -ℤ g .start))
-    [ inl s ↦ inl (rising s h, rising s k)
-    | inr s ↦ inr (falling (<ℤ-le s) k, falling (<ℤ-le s) h)
-    ]
+between-mono g {x} {y} {z} h k = elim (le-or-lt (pos 0) (g .end -ℤ g .start)) [
+  | inl s ↦ inl (rising s h, rising s k)
+  | inr s ↦ inr (falling (<ℤ-le s) k, falling (<ℤ-le s) h)
+]
   where
     r : Fraction
     r = whole (g .end -ℤ g .start)
@@ -108,8 +108,8 @@ module _ (g : Grade) (apart : pos 0 <ℤ lengthSq g) where
   held-over z = choose (ltZ z (pos 0)) (pos 0) (cond (ltZ (lengthSq g) z) (lengthSq g) z) Held
       (λ u. ≈F-trans (held-low (whole z /F n) oneF zero-one (≤F-trans (over-mono length-pos (whole-le (<ℤ-le (ltZ-yes u)))) (≈F-le (over-zero length-pos)))) (≈F-sym (over-zero length-pos)))
       (λ u. choose (ltZ (lengthSq g) z) (lengthSq g) z Held
-        (λ v. ≈F-trans (held-high (whole z /F n) oneF (≤F-trans (≈F-ge over-length) (over-mono length-pos (whole-le (<ℤ-le (ltZ-yes v)))))) (≈F-sym over-length))
-        (λ v. held-between (whole z /F n) oneF (≤F-trans (≈F-ge (over-zero length-pos)) (over-mono length-pos (whole-le (ltZ-no u)))) (≤F-trans (over-mono length-pos (whole-le (ltZ-no v))) (≈F-le over-length))))
+      (λ v. ≈F-trans (held-high (whole z /F n) oneF (≤F-trans (≈F-ge over-length) (over-mono length-pos (whole-le (<ℤ-le (ltZ-yes v)))))) (≈F-sym over-length))
+      (λ v. held-between (whole z /F n) oneF (≤F-trans (≈F-ge (over-zero length-pos)) (over-mono length-pos (whole-le (ltZ-no u)))) (≤F-trans (over-mono length-pos (whole-le (ltZ-no v))) (≈F-le over-length))))
     where
       n : ℕ
       n = natAbs (lengthSq g)
@@ -127,8 +127,8 @@ module _ (g : Grade) (apart : pos 0 <ℤ lengthSq g) where
       (≈F-trans (over-cong length-pos (≈F-sym (≈F-trans (add-congF (≈F-trans (commF (whole l) (whole (g .start))) (whole-mul (g .start) l)) (whole-mul h r)) (whole-add (g .start *ℤ l) (h *ℤ r)))))
       (≈F-trans (over-add (whole l *F whole (g .start)) (whole h *F whole r) length-pos)
       (add-congF
-        (≈F-trans (over-mul (whole l) (whole (g .start)) length-pos) (≈F-trans (mul-congF over-length (≈F-refl (whole (g .start)))) (ringF 1 (λ s. lit (pos 1) ⊗ s) (λ s. s) tt (whole (g .start) ∷ []))))
-        (over-mul (whole h) (whole r) length-pos)))))
+      (≈F-trans (over-mul (whole l) (whole (g .start)) length-pos) (≈F-trans (mul-congF over-length (≈F-refl (whole (g .start)))) (ringF 1 (λ s. lit (pos 1) ⊗ s) (λ s. s) tt (whole (g .start) ∷ []))))
+      (over-mul (whole h) (whole r) length-pos)))))
     where
       l : ℤ
       l = lengthSq g

@@ -1,22 +1,19 @@
 -- What the piece of a box says of t, and so of the level, at every rational point of it. Assumes nothing.
-use mathlib.Core.Path.{_≡_, refl, sym, subst}
-use mathlib.Core.Bool.{Bool, true, false, cond, not, _&&_}
+use mathlib.Core.Path.{sym, subst}
+use mathlib.Core.Bool.{Bool, true, false, not, _&&_}
 use mathlib.Core.List.{List}
-use Prim.Native.Nat.{ℕ, _<_}
+use Prim.Native.Nat.{_<_}
 use lib.Dec.{T}
 use lib.IntN.{ℤ, pos, natAbs}
 use lib.Signed.{leZ, leZ-yes, _<ℤ_}
 use Rattle.exact.specs.Fraction.{Fraction, whole, zeroF, oneF, _/F_, _≤F_, _≈F_, heldF}
-use Rattle.exact.proofs.Choice.{choose}
 use Rattle.exact.proofs.Fraction.{≤F-trans, ≈F-trans, ≈F-le, ≈F-ge, over-mono, over-zero, whole-le}
 use Rattle.exact.proofs.FractionSize.{held-low, held-high, held-between}
 use Rattle.grade.specs.declared.Grade.{Grade}
-use Rattle.grade.specs.declared.GradeDef.{GradeDef}
-use Rattle.grade.specs.declared.LevelKind.{LevelKind}
 use Rattle.grade.specs.declared.Piece.the-variants.{Start, Ramp, End}
 use Rattle.grade.specs.declared.PieceAnswer.{PieceAnswer}
 use Rattle.grade.specs.declared.PieceAnswer.the-variants.{Found, None}
-use Rattle.grade.specs.Grade.{eqZ, isLinear, direction, lengthSq, Point, along, t, between, level}
+use Rattle.grade.specs.Grade.{isLinear, lengthSq, Point, t, between, level}
 use Rattle.grade.specs.Exact.{linearOf, numbers, constantDef, compiled, atCorner, chosen, linearPiece, exactPiece}
 use Rattle.grade.specs.Refusals.{coincident}
 use Rattle.grade.specs.Holds.{Inside, Says, SaysLevel}

@@ -1,27 +1,22 @@
 -- "`range` is ordered, holds the level of every rational box point and takes both bounds at corners." Assumes nothing.
-use mathlib.Core.Path.{_≡_, refl, sym, subst}
+use mathlib.Core.Path.{refl, sym, subst}
 use mathlib.Core.Logic.{_⊎_, inl, inr}
-use mathlib.Core.Bool.{Bool, true, false, cond, not, _&&_}
+use mathlib.Core.Bool.{not, _&&_}
 use mathlib.Core.List.{List}
-use Prim.Native.Nat.{ℕ, _<_}
+use Prim.Native.Nat.{_<_}
 use lib.Dec.{T}
 use lib.IntN.{ℤ, pos, natAbs}
 use lib.Signed.{ltZ, ltZ-yes, ltZ-no, _≤ℤ_, _<ℤ_, ≤ℤ-refl}
 use Rattle.exact.specs.Fraction.{Fraction, whole, oneF, _/F_, _≤F_, _≈F_, heldF}
 use Rattle.exact.proofs.Choice.{choose}
 use Rattle.exact.proofs.IntegerOrder.{<ℤ-le, ≤ℤ-trans}
-use Rattle.exact.proofs.Fraction.{≤F-trans, ≈F-refl, ≈F-sym, ≈F-trans, ≈F-le, ≈F-ge, over-mono, over-cong, over-one, whole-le}
+use Rattle.exact.proofs.Fraction.{≤F-trans, ≈F-sym, ≈F-trans, ≈F-le, ≈F-ge, over-mono, over-cong, over-one, whole-le}
 use Rattle.exact.proofs.FractionSize.{held-mono, held-cong}
 use Rattle.grade.specs.declared.Grade.{Grade}
-use Rattle.grade.specs.declared.Linear.{Linear}
-use Rattle.grade.specs.declared.Bounds.{Bounds}
-use Rattle.grade.specs.declared.GradeDef.{GradeDef}
-use Rattle.grade.specs.declared.LevelKind.{LevelKind}
 use Rattle.grade.specs.Grade.{at, eqZ, isLinear, direction, lengthSq, Point, along, t, between, level}
 use Rattle.grade.specs.Exact.{linearOf, numbers, constantDef, compiled, corner, atCorner, levelOver, boundsOf, linearRange, range}
 use Rattle.grade.specs.Refusals.{coincident}
-use Rattle.grade.specs.Holds.{Inside, Taken, fraction, RangeHolds}
-use Rattle.grade.proofs.Entries.{both}
+use Rattle.grade.specs.Holds.{Taken, RangeHolds}
 use Rattle.grade.proofs.Accepted.{linear-apart, by-kind}
 use Rattle.grade.proofs.LevelLaws.{between-cong, between-mono, level-linear, level-flat, length-pos, level-over}
 use Rattle.grade.proofs.CornerLaws.{along-whole, along-least, along-greatest, corner-ends}
@@ -53,10 +48,10 @@ module _ (g : Grade) (linear : T (isLinear g)) (apart : pos 0 <ℤ lengthSq g) w
       ((whole (levelOver (numbers g) x) /F natAbs (lengthSq g) ≤F level g p) × (level g p ≤F whole (levelOver (numbers g) z) /F natAbs (lengthSq g)))
       ⊎ ((whole (levelOver (numbers g) z) /F natAbs (lengthSq g) ≤F level g p) × (level g p ≤F whole (levelOver (numbers g) x) /F natAbs (lengthSq g)))
   unfolding t
-  at-between p x z h k = elim (between-mono g (held-mono oneF (over-mono (length-pos g apart) h)) (held-mono oneF (over-mono (length-pos g apart) k)))
-      [ inl s ↦ inl (≤F-trans (≈F-ge (level-over g apart x)) (to (s .0)), ≤F-trans (from (s .1)) (≈F-le (level-over g apart z)))
-      | inr s ↦ inr (≤F-trans (≈F-ge (level-over g apart z)) (to (s .0)), ≤F-trans (from (s .1)) (≈F-le (level-over g apart x)))
-      ]
+  at-between p x z h k = elim (between-mono g (held-mono oneF (over-mono (length-pos g apart) h)) (held-mono oneF (over-mono (length-pos g apart) k))) [
+    | inl s ↦ inl (≤F-trans (≈F-ge (level-over g apart x)) (to (s .0)), ≤F-trans (from (s .1)) (≈F-le (level-over g apart z)))
+    | inr s ↦ inr (≤F-trans (≈F-ge (level-over g apart z)) (to (s .0)), ≤F-trans (from (s .1)) (≈F-le (level-over g apart x)))
+  ]
     where
       to : {q : Fraction} → q ≤F between g (heldF (t g p) oneF) → q ≤F level g p
       to {q} u = subst (λ (r : Fraction). q ≤F r) (sym (level-linear g p linear)) u
@@ -93,10 +88,10 @@ module _ (g : Grade) (linear : T (isLinear g)) (apart : pos 0 <ℤ lengthSq g) w
     unfolding linearRange linearOf
     linear-holds = record {
       ordered = ≤ℤ-trans (low-left a b (lengthSq g)) (high-left a b (lengthSq g));
-      holds = λ p i. elim (at-between p (atCorner (numbers g) lo hi) (atCorner (numbers g) hi lo) (along-least (numbers g) lo hi p i) (along-greatest (numbers g) lo hi p i))
-        [ inl s ↦ (≤F-trans (over (low-left a b (lengthSq g))) (s .0), ≤F-trans (s .1) (over (high-right a b (lengthSq g))))
+      holds = λ p i. elim (at-between p (atCorner (numbers g) lo hi) (atCorner (numbers g) hi lo) (along-least (numbers g) lo hi p i) (along-greatest (numbers g) lo hi p i)) [
+        | inl s ↦ (≤F-trans (over (low-left a b (lengthSq g))) (s .0), ≤F-trans (s .1) (over (high-right a b (lengthSq g))))
         | inr s ↦ (≤F-trans (over (low-right a b (lengthSq g))) (s .0), ≤F-trans (s .1) (over (high-left a b (lengthSq g))))
-        ];
+      ];
       low-taken = choose (ltZ b a) b a (λ z. Taken g lo hi (whole z /F natAbs (lengthSq g))) (λ _. high-corner) (λ _. low-corner);
       high-taken = choose (ltZ b a) a b (λ z. Taken g lo hi (whole z /F natAbs (lengthSq g))) (λ _. low-corner) (λ _. high-corner);
     }

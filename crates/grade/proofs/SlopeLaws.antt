@@ -1,24 +1,21 @@
 -- The slope of the level's affine extension: the gradient's intervals hold it, and the extension is affine with that slope. Assumes nothing.
 use mathlib.Core.Path.{_≡_, refl, sym, ap, _∙_, subst}
 use mathlib.Core.Bool.{Bool, true, false, cond, not, _&&_}
-use mathlib.Core.List.{List, [], _∷_}
-use Prim.Native.Nat.{ℕ, zero, suc, _*_, _^_, _≤_, _<_}
+use mathlib.Core.List.{[], _∷_}
+use Prim.Native.Nat.{ℕ, zero, suc, _*_, _≤_, _<_}
 use native.Mathlib.Nat.{le-trans}
 use native.Mathlib.Omega.{arith}
-use lib.Dec.{T, lit<}
+use lib.Dec.{T}
 use lib.IntN.{ℤ, pos, natAbs, _-ℤ_, _*ℤ_, *ℤ-zero}
-use lib.Signed.{_<ℤ_}
-use Rattle.exact.specs.Within.{Within}
 use Rattle.exact.specs.Fraction.{Fraction, ratio, whole, zeroF, _+F_, _-F_, _*F_, _/F_, _≈F_}
 use Rattle.exact.proofs.Size.{within-sub, within-mul}
 use Rattle.exact.proofs.Ring.{lit, _⊕_, _⊖_, _⊗_}
 use Rattle.exact.proofs.FractionRing.{ringF}
-use Rattle.exact.proofs.Fraction.{≈F-refl, ≈F-sym, ≈F-trans, add-congF, mul-congF, over-is, over-cong, over-zero, over-whole, whole-mul}
-use Rattle.interval.specs.declared.Interval.{Interval}
+use Rattle.exact.proofs.Fraction.{≈F-refl, ≈F-sym, ≈F-trans, add-congF, mul-congF, over-is, over-zero, over-whole, whole-mul}
 use Rattle.interval.proofs.Membership.{In, equal-in, wider, zero-encloses}
 use Rattle.interval.proofs.Encloses.{fraction-encloses}
 use Rattle.grade.specs.declared.Grade.{Grade}
-use Rattle.grade.specs.Grade.{at, eqZ, isLinear, direction, lengthSq, Point, along, t, between}
+use Rattle.grade.specs.Grade.{at, eqZ, isLinear, direction, lengthSq, Point, along, t}
 use Rattle.grade.specs.Exact.{linearOf, numbers, constantDef, compiled}
 use Rattle.grade.specs.Refusals.{coincident}
 use Rattle.grade.specs.Fits.{InLimits}
@@ -102,10 +99,10 @@ module _ (g : Grade) (l : T (isLinear g)) (apart : T (not (coincident g))) where
   unfolding along
   ramp-about p m = ≈F-trans (extended p)
       (≈F-trans
-        (ringF 15 (λ s r o p0 p1 p2 m0 m1 m2 f0 f1 f2 d0 d1 d2. s ⊕ ((p0 ⊖ f0) ⊗ d0 ⊕ (p1 ⊖ f1) ⊗ d1 ⊕ (p2 ⊖ f2) ⊗ d2) ⊗ o ⊗ r)
-          (λ s r o p0 p1 p2 m0 m1 m2 f0 f1 f2 d0 d1 d2. s ⊕ ((m0 ⊖ f0) ⊗ d0 ⊕ (m1 ⊖ f1) ⊗ d1 ⊕ (m2 ⊖ f2) ⊗ d2) ⊗ o ⊗ r ⊕ (d0 ⊗ r ⊗ o ⊗ (p0 ⊖ m0) ⊕ d1 ⊗ r ⊗ o ⊗ (p1 ⊖ m1) ⊕ d2 ⊗ r ⊗ o ⊗ (p2 ⊖ m2))) tt
-          (whole (g .start) ∷ whole (g .end -ℤ g .start) ∷ ratio (pos 1) (natAbs (lengthSq g)) N ∷ p 0 ∷ p 1 ∷ p 2 ∷ m 0 ∷ m 1 ∷ m 2 ∷ whole (at (g .from) 0) ∷ whole (at (g .from) 1) ∷ whole (at (g .from) 2) ∷ whole (at (direction g) 0) ∷ whole (at (direction g) 1) ∷ whole (at (direction g) 2) ∷ []))
-        (add-congF (≈F-sym (extended m)) (add-congF (add-congF (step 0) (step 1)) (step 2))))
+      (ringF 15 (λ s r o p0 p1 p2 m0 m1 m2 f0 f1 f2 d0 d1 d2. s ⊕ ((p0 ⊖ f0) ⊗ d0 ⊕ (p1 ⊖ f1) ⊗ d1 ⊕ (p2 ⊖ f2) ⊗ d2) ⊗ o ⊗ r)
+      (λ s r o p0 p1 p2 m0 m1 m2 f0 f1 f2 d0 d1 d2. s ⊕ ((m0 ⊖ f0) ⊗ d0 ⊕ (m1 ⊖ f1) ⊗ d1 ⊕ (m2 ⊖ f2) ⊗ d2) ⊗ o ⊗ r ⊕ (d0 ⊗ r ⊗ o ⊗ (p0 ⊖ m0) ⊕ d1 ⊗ r ⊗ o ⊗ (p1 ⊖ m1) ⊕ d2 ⊗ r ⊗ o ⊗ (p2 ⊖ m2))) tt
+      (whole (g .start) ∷ whole (g .end -ℤ g .start) ∷ ratio (pos 1) (natAbs (lengthSq g)) N ∷ p 0 ∷ p 1 ∷ p 2 ∷ m 0 ∷ m 1 ∷ m 2 ∷ whole (at (g .from) 0) ∷ whole (at (g .from) 1) ∷ whole (at (g .from) 2) ∷ whole (at (direction g) 0) ∷ whole (at (direction g) 1) ∷ whole (at (direction g) 2) ∷ []))
+      (add-congF (≈F-sym (extended m)) (add-congF (add-congF (step 0) (step 1)) (step 2))))
     where
       step : (i : ℕ) → whole (at (direction g) i) *F whole (g .end -ℤ g .start) *F ratio (pos 1) (natAbs (lengthSq g)) N *F (p i -F m i) ≈F slope g i *F (p i -F m i)
       step i = mul-congF (≈F-sym (sloped i)) (≈F-refl (p i -F m i))
@@ -114,7 +111,7 @@ pub affine-about : (g : Grade) → T (not (coincident g)) → (p m : Point) → 
 affine-about g apart p m = by-kind g (λ _. affineLevel g p ≈F affineLevel g m +F (slope g 0 *F (p 0 -F m 0) +F slope g 1 *F (p 1 -F m 1) +F slope g 2 *F (p 2 -F m 2)))
     (λ l. ramp-about g l apart p m)
     (λ u. ≈F-trans (affine-flat g p u) (≈F-sym (≈F-trans (add-congF (affine-flat g m u) (add-congF (add-congF (none 0 u) (none 1 u)) (none 2 u)))
-      (ringF 4 (λ s x y z. s ⊕ (lit (pos 0) ⊗ x ⊕ lit (pos 0) ⊗ y ⊕ lit (pos 0) ⊗ z)) (λ s x y z. s) tt (whole (g .start) ∷ (p 0 -F m 0) ∷ (p 1 -F m 1) ∷ (p 2 -F m 2) ∷ [])))))
+    (ringF 4 (λ s x y z. s ⊕ (lit (pos 0) ⊗ x ⊕ lit (pos 0) ⊗ y ⊕ lit (pos 0) ⊗ z)) (λ s x y z. s) tt (whole (g .start) ∷ (p 0 -F m 0) ∷ (p 1 -F m 1) ∷ (p 2 -F m 2) ∷ [])))))
   where
     none : (i : ℕ) → T (not (isLinear g && not (eqZ (g .start) (g .end)))) → slope g i *F (p i -F m i) ≈F zeroF *F (p i -F m i)
     none i u = mul-congF (slope-flat g i apart u) (≈F-refl (p i -F m i))

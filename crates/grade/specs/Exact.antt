@@ -1,7 +1,6 @@
 -- The compiled grade and its exact answers, numerators over L: document 01's "Exact grade". Definitions only; assumes nothing.
 use mathlib.Core.Bool.{Bool, cond, not, _&&_}
 use mathlib.Core.List.{List, [], _∷_}
-use Prim.Native.Nat.{ℕ}
 use lib.IntN.{ℤ, pos, _+ℤ_, _-ℤ_, _*ℤ_}
 use lib.Signed.{ltZ, leZ}
 use Rattle.grade.specs.declared.Grade.{Grade}
@@ -12,7 +11,7 @@ use Rattle.grade.specs.declared.LevelKind.{LevelKind}
 use Rattle.grade.specs.declared.Piece.the-variants.{Start, Ramp, End}
 use Rattle.grade.specs.declared.PieceAnswer.{PieceAnswer}
 use Rattle.grade.specs.declared.PieceAnswer.the-variants.{Found, None}
-use Rattle.grade.specs.Grade.{at, eqZ, isLinear, minus, dot, direction, lengthSq}
+use Rattle.grade.specs.Grade.{at, eqZ, isLinear, minus, dot, direction}
 
 -- ---- compiled: the linear level's numbers beside its kind
 unfoldable pub linearOf : List ℤ → List ℤ → ℤ → ℤ → Linear

@@ -1,5 +1,4 @@
 -- The sizes that the layer's functions ask of their arguments: what document 01's limits leave. Definitions only; assumes nothing.
-use mathlib.Core.Bool.{Bool}
 use mathlib.Core.List.{List}
 use Prim.Native.Nat.{ℕ}
 use lib.Dec.{T}

@@ -1,7 +1,6 @@
 -- Document 01's "Marked values" (1) to (8). (9) to (12) are about a description and join them where that stands. Definitions only; assumes nothing.
 use mathlib.Core.Path.{_≡_}
 use mathlib.Core.List.{List, [], _∷_}
-use Prim.Native.Nat.{ℕ}
 use lib.IntN.{ℤ, pos, negsuc}
 use Rattle.grade.specs.declared.Grade.{Grade}
 use Rattle.grade.specs.declared.Piece.the-variants.{Start, Ramp, End}

@@ -97,7 +97,11 @@ impl LinearIntervals {
     pub fn parameter_of(self, x: Interval, y: Interval, z: Interval) -> Interval
         ensures { λ r. ⌜ r ≡ parameterOf self x y z ⌝ }
     {
-        Interval::point(0.0).add(x).add(y).add(z).div(self.length_sq)
+        Interval::point(0.0)
+            .add(x)
+            .add(y)
+            .add(z)
+            .div(self.length_sq)
     }
 
     pub fn interval_parameter(self, w: [Interval; 3]) -> Interval
@@ -120,11 +124,7 @@ impl LinearIntervals {
 pub fn piece_of(t: Interval) -> PieceAnswer
     ensures { λ r. ⌜ r ≡ pieceOf t ⌝ }
 {
-    chosen(
-        t.hi <= 0.0,
-        1.0 <= t.lo,
-        (0.0 <= t.lo) & (t.hi <= 1.0),
-    )
+    chosen(t.hi <= 0.0, 1.0 <= t.lo, (0.0 <= t.lo) & (t.hi <= 1.0))
 }
 
 fn zeros() -> [Interval; 3]

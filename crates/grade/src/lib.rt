@@ -52,8 +52,8 @@ pub struct Bounds {
 // The piece of a linear level that holds over a whole box.
 pub enum Piece {
     Start, // the start's value, at or before the start plane
-    Ramp,  // between the planes
-    End,   // the end's value, at or beyond the end plane
+    Ramp, // between the planes
+    End, // the end's value, at or beyond the end plane
 }
 
 pub enum PieceAnswer {

@@ -47,6 +47,11 @@ impl Grade {
     {
         let from = self.from;
         let to = self.to;
-        (0 <= self.kind) & (self.kind <= 2) & ticks(from) & ticks(to) & count(self.start) & count(self.end)
+        (0 <= self.kind)
+            & (self.kind <= 2)
+            & ticks(from)
+            & ticks(to)
+            & count(self.start)
+            & count(self.end)
     }
 }

@@ -3,10 +3,10 @@ ghost use mathlib.Core.Path.{_≡_};
 ghost use Rattle.exact.specs.Within.{Within};
 ghost use Rattle.grade.specs.Exact.{linearOf, held, levelOver, atCorner, boundsOf, linearRange, chosen, linearPiece};
 ghost use Rattle.grade.specs.Fits.{Within3, LinearFits};
-use crate::PieceAnswer;
-use crate::Piece;
 use crate::Bounds;
 use crate::Linear;
+use crate::Piece;
+use crate::PieceAnswer;
 use crate::vector::corner;
 use crate::vector::dot;
 use crate::vector::minus;
@@ -108,10 +108,6 @@ impl Linear {
         let least = self.at_corner(lo, hi);
         let greatest = self.at_corner(hi, lo);
         let l = self.length_sq;
-        chosen(
-            greatest <= 0,
-            l <= least,
-            (0 <= least) & (greatest <= l),
-        )
+        chosen(greatest <= 0, l <= least, (0 <= least) & (greatest <= l))
     }
 }

@@ -2,10 +2,10 @@
 ghost use mathlib.Core.Path.{_≡_};
 ghost use Rattle.grade.specs.Refusals.{refused, _orElse_, isDistance, coincident, rangeRefusal};
 use crate::Grade;
-use crate::limits::ticks;
 use crate::limits::above;
 use crate::limits::equal;
 use crate::limits::same;
+use crate::limits::ticks;
 
 pub fn refused(fails: bool, number: u32) -> u32
     ensures { λ r. ⌜ r ≡ refused fails number ⌝ }

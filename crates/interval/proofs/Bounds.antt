@@ -1,6 +1,6 @@
 -- The laws of what is taken of intervals without rounding: the lesser and the greater of two, one held to 0..1, and the larger size of the
 -- ends. Assumes nothing.
-use mathlib.Core.Path.{refl, sym, subst}
+use mathlib.Core.Path.{sym, subst}
 use mathlib.Core.Bool.{Bool, true, false, not, cond}
 use Prim.Native.Nat.{ℕ, max}
 use native.Mathlib.Nat.{le-max-left, le-max-right, max-zero}
@@ -16,11 +16,11 @@ use Rattle.exact.proofs.FractionRing.{ringF}
 use Rattle.exact.proofs.FractionSize.{abs-neg, abs-of-nonneg, min-one, min-left, min-right, max-one, max-left, max-right, held-is}
 use Rattle.interval.specs.declared.Interval.{Interval}
 use Rattle.interval.specs.Step.{b64}
-use Rattle.interval.specs.Interval.{least, greatest, point, abs, imin, imax, clamp01, magnitude}
+use Rattle.interval.specs.Interval.{least, greatest, abs, imin, imax, clamp01, magnitude}
 use Rattle.interval.specs.Encloses.{value, Small}
 use Rattle.interval.proofs.Compare.{lt-value, nlt-value, least-one, least-left, least-right, greatest-one, greatest-left, greatest-right}
 use Rattle.interval.proofs.Small.{small-finite, small-neg, value-neg}
-use Rattle.interval.proofs.Membership.{In, low, high, between, larger, equal-in, point-encloses, zero-value, zero-finite, zero-encloses, one-encloses}
+use Rattle.interval.proofs.Membership.{In, low, high, between, larger, zero-value, zero-finite, zero-encloses, one-encloses}
 
 -- ---- the lesser and the greater of two
 module _ {j k : ℕ} {q r : Fraction} {X Y : Interval} (h : In j q X) (g : In k r Y) where

@@ -4,25 +4,8 @@ use lib.Signed.{leZ}
 use lib.IntN.{pos}
 use Rattle.grade.specs.Grade.{count, inLimits}
 use Rattle.exact.proofs.Signed.{back, heard}
-use borrow.Author.Needs.{needs}
 use Rattle.grade.proofs.Grade.in_limits.Statement.{statement}
 use Rattle.grade.proofs.Grade.in_limits.Tie as tie
-use Rattle.grade.proofs.Grade.in_limits.Reads as reads
-use Rattle.grade.proofs.Grade.in_limits.Lts as lts
-use Rattle.grade.proofs.limits.count.Reads as count-reads
-use Rattle.grade.proofs.limits.ticks.Reads as ticks-reads
-
-ticks-requires : tie.Need-ticks-requires
-ticks-requires c κs = search needs
-
-ticks-requires-2 : tie.Need-ticks-requires-2
-ticks-requires-2 c κs = search needs
-
-count-requires : tie.Need-count-requires
-count-requires c κs = search needs
-
-count-requires-2 : tie.Need-count-requires-2
-count-requires-2 c κs = search needs
 
 returns : tie.Need-returns
 unfolding inLimits
@@ -35,4 +18,4 @@ returns c =
 
 pub in-limits-spec : {M : Type 1} → statement M
 in-limits-spec =
-    tie.close (tie.spec ticks-requires ticks-requires-2 count-requires count-requires-2 returns)
+    tie.close (tie.spec (λ _ _. tt) (λ _ _. tt) (λ _ _. tt) (λ _ _. tt) returns)

@@ -5,54 +5,15 @@ use mathlib.Core.Path.{_∙_, ap₂}
 use borrow.Author.Needs.{needs}
 use Rattle.grade.proofs.Grade.range_refusal.Statement.{statement}
 use Rattle.grade.proofs.Grade.range_refusal.Tie as tie
-use Rattle.grade.proofs.Grade.range_refusal.Reads as reads
-use Rattle.grade.proofs.Grade.range_refusal.Lts as lts
-use Rattle.grade.proofs.Grade.coincident.Reads as coincident-reads
-use Rattle.grade.proofs.Grade.in_limits.Reads as in-limits-reads
-use Rattle.grade.proofs.Grade.is_distance.Reads as is-distance-reads
-use Rattle.grade.proofs.limits.ticks.Reads as ticks-reads
-use Rattle.grade.proofs.refusals.or_else.Reads as or-else-reads
-use Rattle.grade.proofs.refusals.refused.Reads as refused-reads
-use Rattle.grade.proofs.limits.above.Reads as above-reads
 
 in-limits-requires : tie.Need-in-limits-requires
 in-limits-requires c κs = search needs
 
-ticks-requires : tie.Need-ticks-requires
-ticks-requires c κs = search needs
-
-ticks-requires-2 : tie.Need-ticks-requires-2
-ticks-requires-2 c κs = search needs
-
-refused-requires : tie.Need-refused-requires
-refused-requires c κs = search needs
-
-above-requires : tie.Need-above-requires
-above-requires c κs = search needs
-
-refused-requires-2 : tie.Need-refused-requires-2
-refused-requires-2 c κs = search needs
-
 is-distance-requires : tie.Need-is-distance-requires
 is-distance-requires c κs = search needs
 
-refused-requires-3 : tie.Need-refused-requires-3
-refused-requires-3 c κs = search needs
-
 coincident-requires : tie.Need-coincident-requires
 coincident-requires c κs = search needs
-
-refused-requires-4 : tie.Need-refused-requires-4
-refused-requires-4 c κs = search needs
-
-or-else-requires : tie.Need-or-else-requires
-or-else-requires c κs = search needs
-
-or-else-requires-2 : tie.Need-or-else-requires-2
-or-else-requires-2 c κs = search needs
-
-or-else-requires-3 : tie.Need-or-else-requires-3
-or-else-requires-3 c κs = search needs
 
 returns : tie.Need-returns
 unfolding rangeRefusal
@@ -66,18 +27,4 @@ returns c =
 pub range-refusal-spec : {M : Type 1} → statement M
 range-refusal-spec =
     tie.close
-    (tie.spec
-    in-limits-requires
-    ticks-requires
-    ticks-requires-2
-    refused-requires
-    above-requires
-    refused-requires-2
-    is-distance-requires
-    refused-requires-3
-    coincident-requires
-    refused-requires-4
-    or-else-requires
-    or-else-requires-2
-    or-else-requires-3
-    returns)
+    (tie.spec in-limits-requires (λ _ _. tt) (λ _ _. tt) (λ _ _. tt) (λ _ _. tt) (λ _ _. tt) is-distance-requires (λ _ _. tt) coincident-requires (λ _ _. tt) (λ _ _. tt) (λ _ _. tt) (λ _ _. tt) returns)

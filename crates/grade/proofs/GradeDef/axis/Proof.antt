@@ -3,9 +3,6 @@ use Rattle.grade.specs.Certified.{defAxis}
 use borrow.Author.Needs.{needs}
 use Rattle.grade.proofs.GradeDef.axis.Statement.{statement}
 use Rattle.grade.proofs.GradeDef.axis.Tie as tie
-use Rattle.grade.proofs.GradeDef.axis.Reads as reads
-use Rattle.grade.proofs.GradeDef.axis.Lts as lts
-use Rattle.grade.proofs.Linear.axis.Reads as axis-reads
 
 enum-told : tie.Need-enum-told
 enum-told c = search needs

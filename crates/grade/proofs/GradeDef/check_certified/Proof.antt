@@ -3,9 +3,6 @@ use Rattle.grade.specs.Certified.{certification}
 use borrow.Author.Needs.{needs}
 use Rattle.grade.proofs.GradeDef.check_certified.Statement.{statement}
 use Rattle.grade.proofs.GradeDef.check_certified.Tie as tie
-use Rattle.grade.proofs.GradeDef.check_certified.Reads as reads
-use Rattle.grade.proofs.GradeDef.check_certified.Lts as lts
-use Rattle.grade.proofs.Linear.check_certified.Reads as check-certified-reads
 
 enum-told : tie.Need-enum-told
 enum-told c = search needs

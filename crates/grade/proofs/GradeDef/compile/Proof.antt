@@ -1,7 +1,6 @@
 use Rattle.grade.specs.Exact.{linearOf, constantDef, compiled}
 use Rattle.grade.specs.Grade.{eqZ, isLinear}
 use Rattle.grade.specs.declared.LevelKind.{LevelKind}
-use Rattle.grade.specs.declared.GradeDef.{GradeDef}
 use Rattle.grade.specs.declared.Grade.{Grade}
 use lib.IntN.{pos}
 use mathlib.Core.Bool.{true, false, not, _&&_}
@@ -13,12 +12,6 @@ use Rattle.exact.proofs.Signed.{back, heard, heard₂}
 use borrow.Author.Needs.{needs}
 use Rattle.grade.proofs.GradeDef.compile.Statement.{statement}
 use Rattle.grade.proofs.GradeDef.compile.Tie as tie
-use Rattle.grade.proofs.GradeDef.compile.Reads as reads
-use Rattle.grade.proofs.GradeDef.compile.Lts as lts
-use Rattle.grade.proofs.GradeDef.constant.Reads as constant-reads
-use Rattle.grade.proofs.Linear.new.Reads as new-reads
-use Rattle.grade.proofs.limits.equal.Reads as equal-reads
-
 
 ramp-is : (g : Grade) → (isLinear g && not (eqZ (g .start) (g .end))) ≡ true → record { kind = LevelKind.Linear; linear = linearOf (g .from) (g .to) (g .start) (g .end) } ≡ compiled g
 unfolding compiled
@@ -27,12 +20,6 @@ ramp-is g t = rw t
 constant-is : (g : Grade) → (isLinear g && not (eqZ (g .start) (g .end))) ≡ false → constantDef (g .start) ≡ compiled g
 unfolding compiled
 constant-is g t = rw t
-
-equal-requires : tie.Need-equal-requires
-equal-requires c κs = search needs
-
-equal-requires-2 : tie.Need-equal-requires-2
-equal-requires-2 c κs = search needs
 
 new-requires : tie.Need-new-requires
 new-requires c κs =
@@ -63,4 +50,4 @@ returns-2 c =
 pub compile-spec : {M : Type 1} → statement M
 compile-spec =
     tie.close
-    (tie.spec equal-requires equal-requires-2 new-requires returns constant-requires returns-2)
+    (tie.spec (λ _ _. tt) (λ _ _. tt) new-requires returns constant-requires returns-2)

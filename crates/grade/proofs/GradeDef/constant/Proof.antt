@@ -6,8 +6,6 @@ use mathlib.Core.List.{[], _∷_}
 use Rattle.exact.proofs.Signed.{back}
 use Rattle.grade.proofs.GradeDef.constant.Statement.{statement}
 use Rattle.grade.proofs.GradeDef.constant.Tie as tie
-use Rattle.grade.proofs.GradeDef.constant.Reads as reads
-use Rattle.grade.proofs.GradeDef.constant.Lts as lts
 
 returns : tie.Need-returns
 unfolding constantDef

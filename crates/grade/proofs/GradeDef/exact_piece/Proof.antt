@@ -3,9 +3,6 @@ use Rattle.grade.specs.Exact.{exactPiece}
 use borrow.Author.Needs.{needs}
 use Rattle.grade.proofs.GradeDef.exact_piece.Statement.{statement}
 use Rattle.grade.proofs.GradeDef.exact_piece.Tie as tie
-use Rattle.grade.proofs.GradeDef.exact_piece.Reads as reads
-use Rattle.grade.proofs.GradeDef.exact_piece.Lts as lts
-use Rattle.grade.proofs.Linear.exact_piece.Reads as exact-piece-reads
 
 enum-told : tie.Need-enum-told
 enum-told c = search needs

@@ -6,10 +6,6 @@ use Rattle.exact.proofs.Signed.{heard, within-bits}
 use borrow.Author.Needs.{needs}
 use Rattle.grade.proofs.GradeDef.fast.Statement.{statement}
 use Rattle.grade.proofs.GradeDef.fast.Tie as tie
-use Rattle.grade.proofs.GradeDef.fast.Reads as reads
-use Rattle.grade.proofs.GradeDef.fast.Lts as lts
-use Rattle.grade.proofs.Linear.fast.Reads as fast-reads
-use Rattle.grade.proofs.fast.near.Reads as near-reads
 
 enum-told : tie.Need-enum-told
 enum-told c = search needs

@@ -3,9 +3,6 @@ use Rattle.grade.specs.Intervals.{gradeIntervals}
 use borrow.Author.Needs.{needs}
 use Rattle.grade.proofs.GradeDef.intervals.Statement.{statement}
 use Rattle.grade.proofs.GradeDef.intervals.Tie as tie
-use Rattle.grade.proofs.GradeDef.intervals.Reads as reads
-use Rattle.grade.proofs.GradeDef.intervals.Lts as lts
-use Rattle.grade.proofs.Linear.intervals.Reads as intervals-reads
 
 intervals-requires : tie.Need-intervals-requires
 intervals-requires c κs = search needs

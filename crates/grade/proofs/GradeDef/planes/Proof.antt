@@ -13,10 +13,6 @@ use Rattle.exact.proofs.Signed.{is, fits, bit, add}
 use borrow.Author.Needs.{needs}
 use Rattle.grade.proofs.GradeDef.planes.Statement.{statement}
 use Rattle.grade.proofs.GradeDef.planes.Tie as tie
-use Rattle.grade.proofs.GradeDef.planes.Reads as reads
-use Rattle.grade.proofs.GradeDef.planes.Lts as lts
-use Rattle.grade.proofs.GradeDef.axis.Reads as axis-reads
-
 
 eight : {i : ℕ} → i < 3 → Fits w64 (i * 8)
 eight {i} h = record { fits = omega arith }
@@ -75,16 +71,4 @@ returns-2 c =
 pub planes-spec : {M : Type 1} → statement M
 planes-spec =
     tie.close
-    (tie.spec
-    axis-requires
-    enum-known-i
-    enum-told
-    returns
-    mul-t7
-    array-copy-out-t10
-    mul-t11
-    array-copy-out-t14
-    mul-t15
-    array-copy-out-t18
-    add-t19
-    returns-2)
+    (tie.spec axis-requires enum-known-i enum-told returns mul-t7 array-copy-out-t10 mul-t11 array-copy-out-t14 mul-t15 array-copy-out-t18 add-t19 returns-2)

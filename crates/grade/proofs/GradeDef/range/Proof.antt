@@ -5,9 +5,6 @@ use Rattle.exact.proofs.Signed.{back}
 use borrow.Author.Needs.{needs}
 use Rattle.grade.proofs.GradeDef.range.Statement.{statement}
 use Rattle.grade.proofs.GradeDef.range.Tie as tie
-use Rattle.grade.proofs.GradeDef.range.Reads as reads
-use Rattle.grade.proofs.GradeDef.range.Lts as lts
-use Rattle.grade.proofs.Linear.range.Reads as range-reads
 
 enum-told : tie.Need-enum-told
 enum-told c = search needs

@@ -5,10 +5,6 @@ use Rattle.exact.proofs.Signed.{got, bit}
 use borrow.Author.Needs.{needs}
 use Rattle.grade.proofs.GradeDef.slope_bound.Statement.{statement}
 use Rattle.grade.proofs.GradeDef.slope_bound.Tie as tie
-use Rattle.grade.proofs.GradeDef.slope_bound.Reads as reads
-use Rattle.grade.proofs.GradeDef.slope_bound.Lts as lts
-use Rattle.grade.proofs.Linear.distance.Reads as distance-reads
-use Rattle.grade.proofs.Linear.rise.Reads as rise-reads
 
 enum-told : tie.Need-enum-told
 enum-told c = search needs

@@ -3,10 +3,6 @@ use Rattle.grade.specs.Intervals.{affine}
 use borrow.Author.Needs.{needs}
 use Rattle.grade.proofs.GradeIntervals.affine.Statement.{statement}
 use Rattle.grade.proofs.GradeIntervals.affine.Tie as tie
-use Rattle.grade.proofs.GradeIntervals.affine.Reads as reads
-use Rattle.grade.proofs.GradeIntervals.affine.Lts as lts
-use Rattle.grade.proofs.LinearIntervals.interval_parameter.Reads as interval-parameter-reads
-use Rattle.grade.proofs.LinearIntervals.level_of.Reads as level-of-reads
 
 enum-told : tie.Need-enum-told
 enum-told c = search needs
@@ -31,10 +27,4 @@ returns-2 c = rw (c .level-of .ensures, c .before .interval-parameter .ensures, 
 pub affine-spec : {M : Type 1} → statement M
 affine-spec =
     tie.close
-    (tie.spec
-    enum-told
-    enum-told-2
-    interval-parameter-requires
-    level-of-requires
-    returns
-    returns-2)
+    (tie.spec enum-told enum-told-2 interval-parameter-requires level-of-requires returns returns-2)

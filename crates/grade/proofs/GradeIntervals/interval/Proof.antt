@@ -3,11 +3,6 @@ use Rattle.grade.specs.Intervals.{interval}
 use borrow.Author.Needs.{needs}
 use Rattle.grade.proofs.GradeIntervals.interval.Statement.{statement}
 use Rattle.grade.proofs.GradeIntervals.interval.Tie as tie
-use Rattle.grade.proofs.GradeIntervals.interval.Reads as reads
-use Rattle.grade.proofs.GradeIntervals.interval.Lts as lts
-use Rattle.grade.proofs.LinearIntervals.interval_parameter.Reads as interval-parameter-reads
-use Rattle.grade.proofs.LinearIntervals.level_of.Reads as level-of-reads
-use Rattle.interval.proofs.Interval.clamp01.Reads as clamp01-reads
 
 enum-told : tie.Need-enum-told
 enum-told c = search needs
@@ -17,9 +12,6 @@ enum-told-2 c = search needs
 
 interval-parameter-requires : tie.Need-interval-parameter-requires
 interval-parameter-requires c κs = search needs
-
-clamp01-requires : tie.Need-clamp01-requires
-clamp01-requires c κs = search needs
 
 level-of-requires : tie.Need-level-of-requires
 level-of-requires c κs = search needs
@@ -35,11 +27,4 @@ returns-2 c = rw (c .level-of .ensures, c .before .clamp01 .ensures, c .before .
 pub interval-spec : {M : Type 1} → statement M
 interval-spec =
     tie.close
-    (tie.spec
-    enum-told
-    enum-told-2
-    interval-parameter-requires
-    clamp01-requires
-    level-of-requires
-    returns
-    returns-2)
+    (tie.spec enum-told enum-told-2 interval-parameter-requires (λ _ _. tt) level-of-requires returns returns-2)

@@ -3,10 +3,6 @@ use Rattle.grade.specs.Intervals.{piece}
 use borrow.Author.Needs.{needs}
 use Rattle.grade.proofs.GradeIntervals.piece.Statement.{statement}
 use Rattle.grade.proofs.GradeIntervals.piece.Tie as tie
-use Rattle.grade.proofs.GradeIntervals.piece.Reads as reads
-use Rattle.grade.proofs.GradeIntervals.piece.Lts as lts
-use Rattle.grade.proofs.LinearIntervals.interval_parameter.Reads as interval-parameter-reads
-use Rattle.grade.proofs.intervals.piece_of.Reads as piece-of-reads
 
 enum-told : tie.Need-enum-told
 enum-told c = search needs
@@ -16,9 +12,6 @@ enum-told-2 c = search needs
 
 interval-parameter-requires : tie.Need-interval-parameter-requires
 interval-parameter-requires c κs = search needs
-
-piece-of-requires : tie.Need-piece-of-requires
-piece-of-requires c κs = search needs
 
 returns : tie.Need-returns
 unfolding piece
@@ -31,10 +24,4 @@ returns-2 c = rw (c .piece-of .ensures, c .before .interval-parameter .ensures, 
 pub piece-spec : {M : Type 1} → statement M
 piece-spec =
     tie.close
-    (tie.spec
-    enum-told
-    enum-told-2
-    interval-parameter-requires
-    piece-of-requires
-    returns
-    returns-2)
+    (tie.spec enum-told enum-told-2 interval-parameter-requires (λ _ _. tt) returns returns-2)

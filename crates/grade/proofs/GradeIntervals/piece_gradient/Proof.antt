@@ -3,16 +3,9 @@ use Rattle.grade.specs.Intervals.{pieceGradient}
 use borrow.Author.Needs.{needs}
 use Rattle.grade.proofs.GradeIntervals.piece_gradient.Statement.{statement}
 use Rattle.grade.proofs.GradeIntervals.piece_gradient.Tie as tie
-use Rattle.grade.proofs.GradeIntervals.piece_gradient.Reads as reads
-use Rattle.grade.proofs.GradeIntervals.piece_gradient.Lts as lts
-use Rattle.grade.proofs.GradeIntervals.gradient.Reads as gradient-reads
-use Rattle.grade.proofs.intervals.zeros.Reads as zeros-reads
 
 enum-told : tie.Need-enum-told
 enum-told c = search needs
-
-zeros-requires : tie.Need-zeros-requires
-zeros-requires c κs = search needs
 
 enum-told-2 : tie.Need-enum-told-2
 enum-told-2 c = search needs
@@ -22,9 +15,6 @@ gradient-requires c κs = search needs
 
 enum-told-3 : tie.Need-enum-told-3
 enum-told-3 c = search needs
-
-zeros-requires-2 : tie.Need-zeros-requires-2
-zeros-requires-2 c κs = search needs
 
 returns : tie.Need-returns
 unfolding pieceGradient
@@ -41,13 +31,4 @@ returns-3 c = rw (c .zeros2 .ensures, c .before .enum-told3 .given .1)
 pub piece-gradient-spec : {M : Type 1} → statement M
 piece-gradient-spec =
     tie.close
-    (tie.spec
-    enum-told
-    zeros-requires
-    enum-told-2
-    gradient-requires
-    enum-told-3
-    zeros-requires-2
-    returns
-    returns-2
-    returns-3)
+    (tie.spec enum-told (λ _ _. tt) enum-told-2 gradient-requires enum-told-3 (λ _ _. tt) returns returns-2 returns-3)

@@ -3,19 +3,10 @@ use Rattle.grade.proofs.Sizes.{minus-within, corner-within, at-corner-w
 use Rattle.grade.specs.Fits.{Within3}
 use Rattle.grade.specs.Exact.{atCorner}
 use Rattle.grade.specs.Grade.{minus, dot}
-use mathlib.Core.Path.{_≡_, ap, _∙_, subst⁻¹}
+use mathlib.Core.Path.{ap, _∙_, subst⁻¹}
 use Rattle.exact.proofs.Signed.{got, bit}
-use borrow.Author.Needs.{needs}
 use Rattle.grade.proofs.Linear.at_corner.Statement.{statement}
 use Rattle.grade.proofs.Linear.at_corner.Tie as tie
-use Rattle.grade.proofs.Linear.at_corner.Reads as reads
-use Rattle.grade.proofs.Linear.at_corner.Lts as lts
-use Rattle.grade.proofs.vector.corner.Reads as corner-reads
-use Rattle.grade.proofs.vector.dot.Reads as dot-reads
-use Rattle.grade.proofs.vector.minus.Reads as minus-reads
-
-corner-requires : tie.Need-corner-requires
-corner-requires c κs = search needs
 
 minus-requires : tie.Need-minus-requires
 minus-requires c κs =
@@ -37,4 +28,4 @@ returns c =
     bit tt (got (c .dot .ensures ∙ ap (λ q. dot q (g .direction)) e) (at-corner-within g (p .0) (p .1 .0) (p .1 .1))) .same
 
 pub at-corner-spec : {M : Type 1} → statement M
-at-corner-spec = tie.close (tie.spec corner-requires minus-requires dot-requires returns)
+at-corner-spec = tie.close (tie.spec (λ _ _. tt) minus-requires dot-requires returns)

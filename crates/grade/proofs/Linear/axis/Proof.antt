@@ -6,10 +6,6 @@ use Rattle.exact.proofs.Signed.{heard₃}
 use borrow.Author.Needs.{needs}
 use Rattle.grade.proofs.Linear.axis.Statement.{statement}
 use Rattle.grade.proofs.Linear.axis.Tie as tie
-use Rattle.grade.proofs.Linear.axis.Reads as reads
-use Rattle.grade.proofs.Linear.axis.Lts as lts
-use Rattle.grade.proofs.certified.axis_of.Reads as axis-of-reads
-use Rattle.grade.proofs.certified.only.Reads as only-reads
 
 array-copy-out-only : tie.Need-array-copy-out-only
 array-copy-out-only c = search needs
@@ -20,9 +16,6 @@ array-copy-out-only-2 c = search needs
 array-copy-out-only-3 : tie.Need-array-copy-out-only-3
 array-copy-out-only-3 c = search needs
 
-only-requires : tie.Need-only-requires
-only-requires c κs = search needs
-
 array-copy-out-only-4 : tie.Need-array-copy-out-only-4
 array-copy-out-only-4 c = search needs
 
@@ -31,9 +24,6 @@ array-copy-out-only-5 c = search needs
 
 array-copy-out-only-6 : tie.Need-array-copy-out-only-6
 array-copy-out-only-6 c = search needs
-
-only-requires-2 : tie.Need-only-requires-2
-only-requires-2 c κs = search needs
 
 array-copy-out-only-7 : tie.Need-array-copy-out-only-7
 array-copy-out-only-7 c = search needs
@@ -44,36 +34,16 @@ array-copy-out-only-8 c = search needs
 array-copy-out-only-9 : tie.Need-array-copy-out-only-9
 array-copy-out-only-9 c = search needs
 
-only-requires-3 : tie.Need-only-requires-3
-only-requires-3 c κs = search needs
-
-axis-of-requires : tie.Need-axis-of-requires
-axis-of-requires c κs = search needs
-
 returns : tie.Need-returns
 unfolding axis
 returns c =
     let d = at (c .before .before .before .before .before .before .before .before .before .before .before .before .before .before .args .self .direction) in
-    let x = heard₃ only {x = d 0} {y = d 1} {z = d 2} (record { sfits = c .before .before .before .before .before .before .before .before .before .before .before .before .only-arg .given })(record { sfits = c .before .before .before .before .before .before .before .before .before .before .before .only-arg2 .given })(record { sfits = c .before .before .before .before .before .before .before .before .before .before .only-arg3 .given })(c .before .before .before .before .before .before .before .before .before .only .ensures) in
-    let y = heard₃ only {x = d 1} {y = d 2} {z = d 0} (record { sfits = c .before .before .before .before .before .before .before .before .only-arg4 .given })(record { sfits = c .before .before .before .before .before .before .before .only-arg5 .given })(record { sfits = c .before .before .before .before .before .before .only-arg6 .given })(c .before .before .before .before .before .only2 .ensures) in
-    let z = heard₃ only {x = d 2} {y = d 0} {z = d 1} (record { sfits = c .before .before .before .before .only-arg7 .given })(record { sfits = c .before .before .before .only-arg8 .given })(record { sfits = c .before .before .only-arg9 .given })(c .before .only3 .ensures) in
+    let x = heard₃ only {x = d 0} {y = d 1} {z = d 2} (record { sfits = c .before .before .before .before .before .before .before .before .before .before .before .before .only-arg .given }) (record { sfits = c .before .before .before .before .before .before .before .before .before .before .before .only-arg2 .given }) (record { sfits = c .before .before .before .before .before .before .before .before .before .before .only-arg3 .given }) (c .before .before .before .before .before .before .before .before .before .only .ensures) in
+    let y = heard₃ only {x = d 1} {y = d 2} {z = d 0} (record { sfits = c .before .before .before .before .before .before .before .before .only-arg4 .given }) (record { sfits = c .before .before .before .before .before .before .before .only-arg5 .given }) (record { sfits = c .before .before .before .before .before .before .only-arg6 .given }) (c .before .before .before .before .before .only2 .ensures) in
+    let z = heard₃ only {x = d 2} {y = d 0} {z = d 1} (record { sfits = c .before .before .before .before .only-arg7 .given }) (record { sfits = c .before .before .before .only-arg8 .given }) (record { sfits = c .before .before .only-arg9 .given }) (c .before .only3 .ensures) in
     c .axis-of .ensures ∙ (λ k. axisOf (x k) (y k) (z k))
 
 pub axis-spec : {M : Type 1} → statement M
 axis-spec =
     tie.close
-    (tie.spec
-    array-copy-out-only
-    array-copy-out-only-2
-    array-copy-out-only-3
-    only-requires
-    array-copy-out-only-4
-    array-copy-out-only-5
-    array-copy-out-only-6
-    only-requires-2
-    array-copy-out-only-7
-    array-copy-out-only-8
-    array-copy-out-only-9
-    only-requires-3
-    axis-of-requires
-    returns)
+    (tie.spec array-copy-out-only array-copy-out-only-2 array-copy-out-only-3 (λ _ _. tt) array-copy-out-only-4 array-copy-out-only-5 array-copy-out-only-6 (λ _ _. tt) array-copy-out-only-7 array-copy-out-only-8 array-copy-out-only-9 (λ _ _. tt) (λ _ _. tt) returns)

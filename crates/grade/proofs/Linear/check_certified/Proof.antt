@@ -11,33 +11,12 @@ use Rattle.exact.proofs.Signed.{is, got, fits, bit, mul, heard}
 use borrow.Author.Needs.{needs}
 use Rattle.grade.proofs.Linear.check_certified.Statement.{statement}
 use Rattle.grade.proofs.Linear.check_certified.Tie as tie
-use Rattle.grade.proofs.Linear.check_certified.Reads as reads
-use Rattle.grade.proofs.Linear.check_certified.Lts as lts
-use Rattle.grade.proofs.Axis.is_one.Reads as is-one-reads
-use Rattle.grade.proofs.Linear.axis.Reads as axis-reads
-use Rattle.grade.proofs.Linear.distance.Reads as distance-reads
-use Rattle.grade.proofs.Linear.rise.Reads as rise-reads
-use Rattle.grade.proofs.certified.ending.Reads as ending-reads
-use Rattle.grade.proofs.refusals.or_else.Reads as or-else-reads
-use Rattle.grade.proofs.refusals.refused.Reads as refused-reads
 
 axis-requires : tie.Need-axis-requires
 axis-requires c κs = search needs
 
 is-one-requires : tie.Need-is-one-requires
 is-one-requires c κs = search needs
-
-refused-requires : tie.Need-refused-requires
-refused-requires c κs = search needs
-
-ending-requires : tie.Need-ending-requires
-ending-requires c κs = search needs
-
-ending-requires-2 : tie.Need-ending-requires-2
-ending-requires-2 c κs = search needs
-
-refused-requires-2 : tie.Need-refused-requires-2
-refused-requires-2 c κs = search needs
 
 distance-requires : tie.Need-distance-requires
 distance-requires c κs = search needs
@@ -47,15 +26,6 @@ rise-requires c κs = search needs
 
 mul-refused : tie.Need-mul-refused
 mul-refused c = fits tt (mul (is (within-self (pos 10))) (bit tt (got (c .rise .ensures) (rise-within _ (c .before .before .before .before .before .before .before .before .before .before .pre)))))
-
-refused-requires-3 : tie.Need-refused-requires-3
-refused-requires-3 c κs = search needs
-
-or-else-requires : tie.Need-or-else-requires
-or-else-requires c κs = search needs
-
-or-else-requires-2 : tie.Need-or-else-requires-2
-or-else-requires-2 c κs = search needs
 
 returns : tie.Need-returns
 unfolding linearCertification
@@ -74,17 +44,4 @@ returns c =
 pub check-certified-spec : {M : Type 1} → statement M
 check-certified-spec =
     tie.close
-    (tie.spec
-    axis-requires
-    is-one-requires
-    refused-requires
-    ending-requires
-    ending-requires-2
-    refused-requires-2
-    distance-requires
-    rise-requires
-    mul-refused
-    refused-requires-3
-    or-else-requires
-    or-else-requires-2
-    returns)
+    (tie.spec axis-requires is-one-requires (λ _ _. tt) (λ _ _. tt) (λ _ _. tt) (λ _ _. tt) distance-requires rise-requires mul-refused (λ _ _. tt) (λ _ _. tt) (λ _ _. tt) returns)

@@ -6,9 +6,6 @@ use Rattle.exact.proofs.Signed.{is, got, fits, bit, add}
 use borrow.Author.Needs.{needs}
 use Rattle.grade.proofs.Linear.distance.Statement.{statement}
 use Rattle.grade.proofs.Linear.distance.Tie as tie
-use Rattle.grade.proofs.Linear.distance.Reads as reads
-use Rattle.grade.proofs.Linear.distance.Lts as lts
-use Rattle.grade.proofs.certified.size.Reads as size-reads
 
 array-copy-out-size : tie.Need-array-copy-out-size
 array-copy-out-size c = search needs
@@ -55,13 +52,4 @@ returns c =
 pub distance-spec : {M : Type 1} → statement M
 distance-spec =
     tie.close
-    (tie.spec
-    array-copy-out-size
-    size-requires
-    array-copy-out-size-2
-    size-requires-2
-    add-result
-    array-copy-out-size-3
-    size-requires-3
-    add-result-2
-    returns)
+    (tie.spec array-copy-out-size size-requires array-copy-out-size-2 size-requires-2 add-result array-copy-out-size-3 size-requires-3 add-result-2 returns)

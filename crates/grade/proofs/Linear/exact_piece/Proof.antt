@@ -9,19 +9,12 @@ use Rattle.exact.proofs.Signed.{is, got, bit}
 use borrow.Author.Needs.{needs}
 use Rattle.grade.proofs.Linear.exact_piece.Statement.{statement}
 use Rattle.grade.proofs.Linear.exact_piece.Tie as tie
-use Rattle.grade.proofs.Linear.exact_piece.Reads as reads
-use Rattle.grade.proofs.Linear.exact_piece.Lts as lts
-use Rattle.grade.proofs.Linear.at_corner.Reads as at-corner-reads
-use Rattle.grade.proofs.ramp.chosen.Reads as chosen-reads
 
 at-corner-requires : tie.Need-at-corner-requires
 at-corner-requires c κs = search needs
 
 at-corner-requires-2 : tie.Need-at-corner-requires-2
 at-corner-requires-2 c κs = search needs
-
-chosen-requires : tie.Need-chosen-requires
-chosen-requires c κs = search needs
 
 returns : tie.Need-returns
 unfolding linearPiece
@@ -35,4 +28,4 @@ returns c =
 
 pub exact-piece-spec : {M : Type 1} → statement M
 exact-piece-spec =
-    tie.close (tie.spec at-corner-requires at-corner-requires-2 chosen-requires returns)
+    tie.close (tie.spec at-corner-requires at-corner-requires-2 (λ _ _. tt) returns)

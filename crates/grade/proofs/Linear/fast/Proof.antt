@@ -10,12 +10,6 @@ use Rattle.exact.proofs.Signed.{heard, heard₂, within-bits}
 use borrow.Author.Needs.{needs}
 use Rattle.grade.proofs.Linear.fast.Statement.{statement}
 use Rattle.grade.proofs.Linear.fast.Tie as tie
-use Rattle.grade.proofs.Linear.fast.Reads as reads
-use Rattle.grade.proofs.Linear.fast.Lts as lts
-use Rattle.grade.proofs.fast.clamp.Reads as clamp-reads
-use Rattle.grade.proofs.fast.fast_along.Reads as fast-along-reads
-use Rattle.grade.proofs.fast.near.Reads as near-reads
-use Rattle.interval.proofs.nearest.nearest.Reads as nearest-reads
 
 array-read-fast-along : tie.Need-array-read-fast-along
 array-read-fast-along c = search needs
@@ -56,9 +50,6 @@ fast-along-requires-3 c κs = (within-bits 2097152 tt tt (c .before .before .bef
 nearest-requires : tie.Need-nearest-requires
 nearest-requires c κs = (within-bits 9007199254740992 tt tt (c .before .before .before .before .before .before .before .before .before .before .before .before .pre .length) .abs, lit< tt, lit≤ tt)
 
-clamp-requires : tie.Need-clamp-requires
-clamp-requires c κs = search needs
-
 near-requires : tie.Need-near-requires
 near-requires c κs = within-bits 2097152 tt tt (c .before .before .before .before .before .before .before .before .before .before .before .before .before .before .before .pre .start)
 
@@ -82,21 +73,4 @@ returns c =
 pub fast-spec : {M : Type 1} → statement M
 fast-spec =
     tie.close
-    (tie.spec
-    array-read-fast-along
-    array-copy-out-fast-along
-    array-copy-out-fast-along-2
-    fast-along-requires
-    array-read-fast-along-2
-    array-copy-out-fast-along-3
-    array-copy-out-fast-along-4
-    fast-along-requires-2
-    array-read-fast-along-3
-    array-copy-out-fast-along-5
-    array-copy-out-fast-along-6
-    fast-along-requires-3
-    nearest-requires
-    clamp-requires
-    near-requires
-    near-requires-2
-    returns)
+    (tie.spec array-read-fast-along array-copy-out-fast-along array-copy-out-fast-along-2 fast-along-requires array-read-fast-along-2 array-copy-out-fast-along-3 array-copy-out-fast-along-4 fast-along-requires-2 array-read-fast-along-3 array-copy-out-fast-along-5 array-copy-out-fast-along-6 fast-along-requires-3 nearest-requires (λ _ _. tt) near-requires near-requires-2 returns)

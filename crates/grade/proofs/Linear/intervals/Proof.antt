@@ -9,13 +9,6 @@ use Rattle.exact.proofs.Signed.{heard, within-bits}
 use borrow.Author.Needs.{needs}
 use Rattle.grade.proofs.Linear.intervals.Statement.{statement}
 use Rattle.grade.proofs.Linear.intervals.Tie as tie
-use Rattle.grade.proofs.Linear.intervals.Reads as reads
-use Rattle.grade.proofs.Linear.intervals.Lts as lts
-use Rattle.grade.proofs.Linear.slopes.Reads as slopes-reads
-use Rattle.grade.proofs.intervals.unit.Reads as unit-reads
-use Rattle.grade.proofs.intervals.units.Reads as units-reads
-use Rattle.interval.proofs.Interval.from_rational.Reads as from-rational-reads
-use Rattle.interval.proofs.Interval.sub.Reads as sub-reads
 
 unit-requires : tie.Need-unit-requires
 unit-requires c κs = within-bits 2097152 tt tt (c .before .before .before .pre .start)
@@ -31,9 +24,6 @@ from-rational-requires c κs = (within-bits 9007199254740992 tt tt (c .before .b
 
 unit-requires-2 : tie.Need-unit-requires-2
 unit-requires-2 c κs = within-bits 2097152 tt tt (c .before .before .before .before .before .before .before .before .before .pre .end)
-
-sub-requires : tie.Need-sub-requires
-sub-requires c κs = search needs
 
 slopes-requires : tie.Need-slopes-requires
 slopes-requires c κs = search needs
@@ -51,12 +41,4 @@ returns c =
 pub intervals-spec : {M : Type 1} → statement M
 intervals-spec =
     tie.close
-    (tie.spec
-    unit-requires
-    units-requires
-    units-requires-2
-    from-rational-requires
-    unit-requires-2
-    sub-requires
-    slopes-requires
-    returns)
+    (tie.spec unit-requires units-requires units-requires-2 from-rational-requires unit-requires-2 (λ _ _. tt) slopes-requires returns)

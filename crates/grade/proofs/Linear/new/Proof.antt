@@ -8,10 +8,6 @@ use Rattle.exact.proofs.Signed.{got, bit, back}
 use borrow.Author.Needs.{needs}
 use Rattle.grade.proofs.Linear.new.Statement.{statement}
 use Rattle.grade.proofs.Linear.new.Tie as tie
-use Rattle.grade.proofs.Linear.new.Reads as reads
-use Rattle.grade.proofs.Linear.new.Lts as lts
-use Rattle.grade.proofs.vector.dot.Reads as dot-reads
-use Rattle.grade.proofs.vector.minus.Reads as minus-reads
 
 minus-requires : tie.Need-minus-requires
 minus-requires c κs = search needs

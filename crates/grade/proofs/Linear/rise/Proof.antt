@@ -5,9 +5,6 @@ use mathlib.Core.Path.{_∙_, ap}
 use Rattle.exact.proofs.Signed.{is, got, fits, bit, sub, asked}
 use Rattle.grade.proofs.Linear.rise.Statement.{statement}
 use Rattle.grade.proofs.Linear.rise.Tie as tie
-use Rattle.grade.proofs.Linear.rise.Reads as reads
-use Rattle.grade.proofs.Linear.rise.Lts as lts
-use Rattle.grade.proofs.certified.size.Reads as size-reads
 
 sub-size : tie.Need-sub-size
 sub-size c = fits tt (sub (bit tt (is (c .before .before .pre .end))) (bit tt (is (c .before .before .pre .start))))

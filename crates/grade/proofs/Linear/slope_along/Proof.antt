@@ -3,8 +3,8 @@ use Rattle.grade.proofs.Sizes.{size-above}
 use Rattle.interval.specs.Nearest.{fromRational}
 use Rattle.exact.proofs.IntegerOrder.{<ℤ-le}
 use lib.Signed.{_<ℤ_, nonNeg, yes-nonNeg}
-use lib.IntN.{ℤ, pos, negsuc, natAbs}
-use lib.Dec.{T, lit≤, ltb→lt}
+use lib.IntN.{ℤ, natAbs}
+use lib.Dec.{T, lit≤}
 use native.Mathlib.Omega.{arith}
 use native.Mathlib.Nat.{le-trans}
 use Prim.Native.Nat.{ℕ, suc, _≤_, _<_}
@@ -12,10 +12,6 @@ use mathlib.Core.Path.{_∙_, subst⁻¹}
 use Rattle.exact.proofs.Signed.{is, fits, bit, sub, mul, asked}
 use Rattle.grade.proofs.Linear.slope_along.Statement.{statement}
 use Rattle.grade.proofs.Linear.slope_along.Tie as tie
-use Rattle.grade.proofs.Linear.slope_along.Reads as reads
-use Rattle.grade.proofs.Linear.slope_along.Lts as lts
-use Rattle.interval.proofs.Interval.from_rational.Reads as from-rational-reads
-
 
 suc-le : {m n : ℕ} → m ≤ n → suc m ≤ suc n
 suc-le h = omega arith
@@ -49,9 +45,4 @@ returns c =
 pub slope-along-spec : {M : Type 1} → statement M
 slope-along-spec =
     tie.close
-    (tie.spec
-    sub-from-rational
-    mul-from-rational
-    cast-from-rational
-    from-rational-requires
-    returns)
+    (tie.spec sub-from-rational mul-from-rational cast-from-rational from-rational-requires returns)

@@ -6,9 +6,6 @@ use Rattle.exact.proofs.Signed.{heard}
 use borrow.Author.Needs.{needs}
 use Rattle.grade.proofs.Linear.slopes.Statement.{statement}
 use Rattle.grade.proofs.Linear.slopes.Tie as tie
-use Rattle.grade.proofs.Linear.slopes.Reads as reads
-use Rattle.grade.proofs.Linear.slopes.Lts as lts
-use Rattle.grade.proofs.Linear.slope_along.Reads as slope-along-reads
 
 array-copy-out-slope-along : tie.Need-array-copy-out-slope-along
 array-copy-out-slope-along c = search needs
@@ -40,11 +37,4 @@ returns c =
 pub slopes-spec : {M : Type 1} → statement M
 slopes-spec =
     tie.close
-    (tie.spec
-    array-copy-out-slope-along
-    slope-along-requires
-    array-copy-out-slope-along-2
-    slope-along-requires-2
-    array-copy-out-slope-along-3
-    slope-along-requires-3
-    returns)
+    (tie.spec array-copy-out-slope-along slope-along-requires array-copy-out-slope-along-2 slope-along-requires-2 array-copy-out-slope-along-3 slope-along-requires-3 returns)

@@ -3,10 +3,6 @@ use Rattle.grade.specs.Intervals.{parameter}
 use borrow.Author.Needs.{needs}
 use Rattle.grade.proofs.LinearIntervals.interval_parameter.Statement.{statement}
 use Rattle.grade.proofs.LinearIntervals.interval_parameter.Tie as tie
-use Rattle.grade.proofs.LinearIntervals.interval_parameter.Reads as reads
-use Rattle.grade.proofs.LinearIntervals.interval_parameter.Lts as lts
-use Rattle.grade.proofs.LinearIntervals.along_axis.Reads as along-axis-reads
-use Rattle.grade.proofs.LinearIntervals.parameter_of.Reads as parameter-of-reads
 
 array-copy-out-along-axis : tie.Need-array-copy-out-along-axis
 array-copy-out-along-axis c = search needs
@@ -36,12 +32,4 @@ returns c = cc
 pub interval-parameter-spec : {M : Type 1} → statement M
 interval-parameter-spec =
     tie.close
-    (tie.spec
-    array-copy-out-along-axis
-    along-axis-requires
-    array-copy-out-along-axis-2
-    along-axis-requires-2
-    array-copy-out-along-axis-3
-    along-axis-requires-3
-    parameter-of-requires
-    returns)
+    (tie.spec array-copy-out-along-axis along-axis-requires array-copy-out-along-axis-2 along-axis-requires-2 array-copy-out-along-axis-3 along-axis-requires-3 parameter-of-requires returns)

@@ -7,8 +7,6 @@ use Rattle.exact.proofs.Size.{within-zero}
 use Rattle.exact.proofs.Signed.{is, fits, bit, sub, back, plain, zero-fits}
 use Rattle.grade.proofs.certified.size.Statement.{statement}
 use Rattle.grade.proofs.certified.size.Tie as tie
-use Rattle.grade.proofs.certified.size.Reads as reads
-use Rattle.grade.proofs.certified.size.Lts as lts
 
 sub-result : tie.Need-sub-result
 sub-result c = fits tt (sub (is (within-zero 0)) (bit tt (is (c .before .pre))))

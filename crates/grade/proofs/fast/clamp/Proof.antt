@@ -1,8 +1,6 @@
 -- By the tests. Assumes nothing.
 use Rattle.grade.proofs.fast.clamp.Statement.{statement}
 use Rattle.grade.proofs.fast.clamp.Tie as tie
-use Rattle.grade.proofs.fast.clamp.Reads as reads
-use Rattle.grade.proofs.fast.clamp.Lts as lts
 
 returns : tie.Need-returns
 returns c = simp (c .if1 .taken)

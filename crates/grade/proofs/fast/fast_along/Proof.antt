@@ -5,9 +5,6 @@ use Rattle.exact.proofs.Signed.{heard}
 use borrow.Author.Needs.{needs}
 use Rattle.grade.proofs.fast.fast_along.Statement.{statement}
 use Rattle.grade.proofs.fast.fast_along.Tie as tie
-use Rattle.grade.proofs.fast.fast_along.Reads as reads
-use Rattle.grade.proofs.fast.fast_along.Lts as lts
-use Rattle.grade.proofs.fast.near.Reads as near-reads
 
 near-requires : tie.Need-near-requires
 near-requires c κs = search needs

@@ -4,9 +4,6 @@ use lib.Dec.{lit<, lit≤}
 use Rattle.exact.proofs.Signed.{heard, within-bits}
 use Rattle.grade.proofs.fast.near.Statement.{statement}
 use Rattle.grade.proofs.fast.near.Tie as tie
-use Rattle.grade.proofs.fast.near.Reads as reads
-use Rattle.grade.proofs.fast.near.Lts as lts
-use Rattle.interval.proofs.nearest.nearest.Reads as nearest-reads
 
 nearest-requires : tie.Need-nearest-requires
 nearest-requires c κs = (within-bits 9007199254740992 tt tt (c .pre) .abs, lit< tt, lit≤ tt)

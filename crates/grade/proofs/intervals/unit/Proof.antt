@@ -4,9 +4,6 @@ use lib.Dec.{lit<, lit≤}
 use Rattle.exact.proofs.Signed.{heard, within-bits}
 use Rattle.grade.proofs.intervals.unit.Statement.{statement}
 use Rattle.grade.proofs.intervals.unit.Tie as tie
-use Rattle.grade.proofs.intervals.unit.Reads as reads
-use Rattle.grade.proofs.intervals.unit.Lts as lts
-use Rattle.interval.proofs.Interval.from_rational.Reads as from-rational-reads
 
 from-rational-requires : tie.Need-from-rational-requires
 from-rational-requires c κs = (within-bits 9007199254740992 tt tt (c .pre) .abs, lit< tt, lit≤ tt)

@@ -6,9 +6,6 @@ use Rattle.exact.proofs.Signed.{heard}
 use borrow.Author.Needs.{needs}
 use Rattle.grade.proofs.intervals.units.Statement.{statement}
 use Rattle.grade.proofs.intervals.units.Tie as tie
-use Rattle.grade.proofs.intervals.units.Reads as reads
-use Rattle.grade.proofs.intervals.units.Lts as lts
-use Rattle.grade.proofs.intervals.unit.Reads as unit-reads
 
 array-copy-out-unit : tie.Need-array-copy-out-unit
 array-copy-out-unit c = search needs
@@ -39,11 +36,4 @@ returns c =
 pub units-spec : {M : Type 1} → statement M
 units-spec =
     tie.close
-    (tie.spec
-    array-copy-out-unit
-    unit-requires
-    array-copy-out-unit-2
-    unit-requires-2
-    array-copy-out-unit-3
-    unit-requires-3
-    returns)
+    (tie.spec array-copy-out-unit unit-requires array-copy-out-unit-2 unit-requires-2 array-copy-out-unit-3 unit-requires-3 returns)

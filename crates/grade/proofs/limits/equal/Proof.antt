@@ -2,8 +2,6 @@
 use Rattle.exact.proofs.Signed.{equal-bits}
 use Rattle.grade.proofs.limits.equal.Statement.{statement}
 use Rattle.grade.proofs.limits.equal.Tie as tie
-use Rattle.grade.proofs.limits.equal.Reads as reads
-use Rattle.grade.proofs.limits.equal.Lts as lts
 
 returns : tie.Need-returns
 returns c = equal-bits (c .fits .a) (c .fits .b)

@@ -5,9 +5,6 @@ use Rattle.exact.proofs.Signed.{heard₂}
 use borrow.Author.Needs.{needs}
 use Rattle.grade.proofs.limits.same.Statement.{statement}
 use Rattle.grade.proofs.limits.same.Tie as tie
-use Rattle.grade.proofs.limits.same.Reads as reads
-use Rattle.grade.proofs.limits.same.Lts as lts
-use Rattle.grade.proofs.limits.equal.Reads as equal-reads
 
 array-copy-out-equal : tie.Need-array-copy-out-equal
 array-copy-out-equal c = search needs
@@ -15,26 +12,17 @@ array-copy-out-equal c = search needs
 array-copy-out-equal-2 : tie.Need-array-copy-out-equal-2
 array-copy-out-equal-2 c = search needs
 
-equal-requires : tie.Need-equal-requires
-equal-requires c κs = search needs
-
 array-copy-out-equal-3 : tie.Need-array-copy-out-equal-3
 array-copy-out-equal-3 c = search needs
 
 array-copy-out-equal-4 : tie.Need-array-copy-out-equal-4
 array-copy-out-equal-4 c = search needs
 
-equal-requires-2 : tie.Need-equal-requires-2
-equal-requires-2 c κs = search needs
-
 array-copy-out-equal-5 : tie.Need-array-copy-out-equal-5
 array-copy-out-equal-5 c = search needs
 
 array-copy-out-equal-6 : tie.Need-array-copy-out-equal-6
 array-copy-out-equal-6 c = search needs
-
-equal-requires-3 : tie.Need-equal-requires-3
-equal-requires-3 c κs = search needs
 
 returns : tie.Need-returns
 returns c =
@@ -48,14 +36,4 @@ returns c =
 pub same-spec : {M : Type 1} → statement M
 same-spec =
     tie.close
-    (tie.spec
-    array-copy-out-equal
-    array-copy-out-equal-2
-    equal-requires
-    array-copy-out-equal-3
-    array-copy-out-equal-4
-    equal-requires-2
-    array-copy-out-equal-5
-    array-copy-out-equal-6
-    equal-requires-3
-    returns)
+    (tie.spec array-copy-out-equal array-copy-out-equal-2 (λ _ _. tt) array-copy-out-equal-3 array-copy-out-equal-4 (λ _ _. tt) array-copy-out-equal-5 array-copy-out-equal-6 (λ _ _. tt) returns)

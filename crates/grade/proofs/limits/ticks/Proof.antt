@@ -6,27 +6,15 @@ use Rattle.exact.proofs.Signed.{heard}
 use borrow.Author.Needs.{needs}
 use Rattle.grade.proofs.limits.ticks.Statement.{statement}
 use Rattle.grade.proofs.limits.ticks.Tie as tie
-use Rattle.grade.proofs.limits.ticks.Reads as reads
-use Rattle.grade.proofs.limits.ticks.Lts as lts
-use Rattle.grade.proofs.limits.tick.Reads as tick-reads
 
 array-copy-out-tick : tie.Need-array-copy-out-tick
 array-copy-out-tick c = search needs
 
-tick-requires : tie.Need-tick-requires
-tick-requires c κs = search needs
-
 array-copy-out-tick-2 : tie.Need-array-copy-out-tick-2
 array-copy-out-tick-2 c = search needs
 
-tick-requires-2 : tie.Need-tick-requires-2
-tick-requires-2 c κs = search needs
-
 array-copy-out-tick-3 : tie.Need-array-copy-out-tick-3
 array-copy-out-tick-3 c = search needs
-
-tick-requires-3 : tie.Need-tick-requires-3
-tick-requires-3 c κs = search needs
 
 returns : tie.Need-returns
 returns c =
@@ -39,11 +27,4 @@ returns c =
 pub ticks-spec : {M : Type 1} → statement M
 ticks-spec =
     tie.close
-    (tie.spec
-    array-copy-out-tick
-    tick-requires
-    array-copy-out-tick-2
-    tick-requires-2
-    array-copy-out-tick-3
-    tick-requires-3
-    returns)
+    (tie.spec array-copy-out-tick (λ _ _. tt) array-copy-out-tick-2 (λ _ _. tt) array-copy-out-tick-3 (λ _ _. tt) returns)

@@ -2,8 +2,6 @@
 use borrow.Author.Needs.{needs}
 use Rattle.grade.proofs.ramp.chosen.Statement.{statement}
 use Rattle.grade.proofs.ramp.chosen.Tie as tie
-use Rattle.grade.proofs.ramp.chosen.Reads as reads
-use Rattle.grade.proofs.ramp.chosen.Lts as lts
 
 returns : tie.Need-returns
 returns c = simp (c .if1 .taken)

@@ -6,8 +6,6 @@ use lib.Signed.{ltZ}
 use Rattle.exact.proofs.Signed.{back, plain, zero-fits}
 use Rattle.grade.proofs.ramp.held.Statement.{statement}
 use Rattle.grade.proofs.ramp.held.Tie as tie
-use Rattle.grade.proofs.ramp.held.Reads as reads
-use Rattle.grade.proofs.ramp.held.Lts as lts
 
 returns : tie.Need-returns
 returns c =

@@ -5,8 +5,6 @@ use lib.Signed.{ltZ}
 use Rattle.exact.proofs.Signed.{back, plain}
 use Rattle.grade.proofs.ramp.ordered.Statement.{statement}
 use Rattle.grade.proofs.ramp.ordered.Tie as tie
-use Rattle.grade.proofs.ramp.ordered.Reads as reads
-use Rattle.grade.proofs.ramp.ordered.Lts as lts
 
 returns : tie.Need-returns
 returns c =

@@ -6,15 +6,10 @@ use borrow.Author.Tests.{ne-eqb}
 -- The refusals say what the calls behind them ask. Assumes nothing.
 use Rattle.grade.proofs.Accepted.{accepted, compiled-fits}
 use Rattle.grade.specs.Fits.{DefFits}
-use mathlib.Core.Path.{_≡_, sym, ap, _∙_, subst⁻¹}
+use mathlib.Core.Path.{sym, ap, _∙_, subst⁻¹}
 use borrow.Author.Needs.{needs}
 use Rattle.grade.proofs.range.grade_range.Statement.{statement}
 use Rattle.grade.proofs.range.grade_range.Tie as tie
-use Rattle.grade.proofs.range.grade_range.Reads as reads
-use Rattle.grade.proofs.range.grade_range.Lts as lts
-use Rattle.grade.proofs.Grade.range_refusal.Reads as range-refusal-reads
-use Rattle.grade.proofs.GradeDef.compile.Reads as compile-reads
-use Rattle.grade.proofs.GradeDef.range.Reads as range-reads
 
 range-refusal-requires : tie.Need-range-refusal-requires
 range-refusal-requires c κs = search needs

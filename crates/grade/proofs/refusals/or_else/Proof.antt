@@ -2,8 +2,6 @@ use borrow.Author.Tests.{ne-eqb}
 -- By the test. Assumes nothing.
 use Rattle.grade.proofs.refusals.or_else.Statement.{statement}
 use Rattle.grade.proofs.refusals.or_else.Tie as tie
-use Rattle.grade.proofs.refusals.or_else.Reads as reads
-use Rattle.grade.proofs.refusals.or_else.Lts as lts
 
 returns : tie.Need-returns
 returns c = simp (c .if1 .taken)

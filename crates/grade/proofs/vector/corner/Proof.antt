@@ -12,10 +12,6 @@ use Rattle.exact.proofs.Signed.{back}
 use borrow.Author.Needs.{needs}
 use Rattle.grade.proofs.vector.corner.Statement.{statement}
 use Rattle.grade.proofs.vector.corner.Tie as tie
-use Rattle.grade.proofs.vector.corner.Reads as reads
-use Rattle.grade.proofs.vector.corner.Lts as lts
-use Rattle.grade.proofs.vector.toward.Reads as toward-reads
-
 
 picked : (d a b : ℤ) {r : ℤ} → SFits w64 d → SFits w64 a → SFits w64 b → r ≡ toward (toZ w64 (ofZ w64 d)) (toZ w64 (ofZ w64 a)) (toZ w64 (ofZ w64 b)) → toZ w64 (ofZ w64 r) ≡ toward d a b
 picked d a b {r} fd fa fb e = back (subst⁻¹ (SFits w64) same (choose (ltZ (pos 0) d) a b (SFits w64) (λ _. fa) (λ _. fb))) ∙ same
@@ -32,9 +28,6 @@ array-copy-out-toward-2 c = search needs
 array-copy-out-toward-3 : tie.Need-array-copy-out-toward-3
 array-copy-out-toward-3 c = search needs
 
-toward-requires : tie.Need-toward-requires
-toward-requires c κs = search needs
-
 array-copy-out-toward-4 : tie.Need-array-copy-out-toward-4
 array-copy-out-toward-4 c = search needs
 
@@ -44,9 +37,6 @@ array-copy-out-toward-5 c = search needs
 array-copy-out-toward-6 : tie.Need-array-copy-out-toward-6
 array-copy-out-toward-6 c = search needs
 
-toward-requires-2 : tie.Need-toward-requires-2
-toward-requires-2 c κs = search needs
-
 array-copy-out-toward-7 : tie.Need-array-copy-out-toward-7
 array-copy-out-toward-7 c = search needs
 
@@ -55,9 +45,6 @@ array-copy-out-toward-8 c = search needs
 
 array-copy-out-toward-9 : tie.Need-array-copy-out-toward-9
 array-copy-out-toward-9 c = search needs
-
-toward-requires-3 : tie.Need-toward-requires-3
-toward-requires-3 c κs = search needs
 
 returns : tie.Need-returns
 unfolding corner
@@ -73,17 +60,4 @@ returns c =
 pub corner-spec : {M : Type 1} → statement M
 corner-spec =
     tie.close
-    (tie.spec
-    array-copy-out-toward
-    array-copy-out-toward-2
-    array-copy-out-toward-3
-    toward-requires
-    array-copy-out-toward-4
-    array-copy-out-toward-5
-    array-copy-out-toward-6
-    toward-requires-2
-    array-copy-out-toward-7
-    array-copy-out-toward-8
-    array-copy-out-toward-9
-    toward-requires-3
-    returns)
+    (tie.spec array-copy-out-toward array-copy-out-toward-2 array-copy-out-toward-3 (λ _ _. tt) array-copy-out-toward-4 array-copy-out-toward-5 array-copy-out-toward-6 (λ _ _. tt) array-copy-out-toward-7 array-copy-out-toward-8 array-copy-out-toward-9 (λ _ _. tt) returns)

@@ -4,8 +4,6 @@ use Rattle.exact.proofs.Signed.{is, fits, bit, add, mul}
 use borrow.Author.Needs.{needs}
 use Rattle.grade.proofs.vector.dot.Statement.{statement}
 use Rattle.grade.proofs.vector.dot.Tie as tie
-use Rattle.grade.proofs.vector.dot.Reads as reads
-use Rattle.grade.proofs.vector.dot.Lts as lts
 
 array-copy-out-result : tie.Need-array-copy-out-result
 array-copy-out-result c = search needs
@@ -64,16 +62,4 @@ returns c =
 pub dot-spec : {M : Type 1} → statement M
 dot-spec =
     tie.close
-    (tie.spec
-    array-copy-out-result
-    array-copy-out-result-2
-    mul-result
-    array-copy-out-result-3
-    array-copy-out-result-4
-    mul-result-2
-    add-result
-    array-copy-out-result-5
-    array-copy-out-result-6
-    mul-result-3
-    add-result-2
-    returns)
+    (tie.spec array-copy-out-result array-copy-out-result-2 mul-result array-copy-out-result-3 array-copy-out-result-4 mul-result-2 add-result array-copy-out-result-5 array-copy-out-result-6 mul-result-3 add-result-2 returns)

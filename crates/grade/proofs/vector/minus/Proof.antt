@@ -5,8 +5,6 @@ use Rattle.exact.proofs.Signed.{is, fits, bit, sub}
 use borrow.Author.Needs.{needs}
 use Rattle.grade.proofs.vector.minus.Statement.{statement}
 use Rattle.grade.proofs.vector.minus.Tie as tie
-use Rattle.grade.proofs.vector.minus.Reads as reads
-use Rattle.grade.proofs.vector.minus.Lts as lts
 
 array-copy-out-t7 : tie.Need-array-copy-out-t7
 array-copy-out-t7 c = search needs
@@ -48,14 +46,4 @@ returns c =
 pub minus-spec : {M : Type 1} → statement M
 minus-spec =
     tie.close
-    (tie.spec
-    array-copy-out-t7
-    array-copy-out-t10
-    sub-t11
-    array-copy-out-t14
-    array-copy-out-t17
-    sub-t18
-    array-copy-out-t21
-    array-copy-out-t24
-    sub-t25
-    returns)
+    (tie.spec array-copy-out-t7 array-copy-out-t10 sub-t11 array-copy-out-t14 array-copy-out-t17 sub-t18 array-copy-out-t21 array-copy-out-t24 sub-t25 returns)

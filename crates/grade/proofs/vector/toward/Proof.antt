@@ -6,8 +6,6 @@ use lib.Signed.{ltZ}
 use Rattle.exact.proofs.Signed.{back, plain, zero-fits}
 use Rattle.grade.proofs.vector.toward.Statement.{statement}
 use Rattle.grade.proofs.vector.toward.Tie as tie
-use Rattle.grade.proofs.vector.toward.Reads as reads
-use Rattle.grade.proofs.vector.toward.Lts as lts
 
 returns : tie.Need-returns
 returns c =
