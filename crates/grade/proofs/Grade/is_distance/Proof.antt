@@ -1,7 +1,7 @@
 -- The kind is read back from its bits. Assumes nothing.
 use lib.IntN.{pos}
-use Rattle.grade.specs.Grade.{eqZ}
 use Rattle.exact.proofs.Signed.{heard}
+use Rattle.grade.specs.Grade.{eqZ}
 use Rattle.grade.proofs.Grade.is_distance.Statement.{statement}
 use Rattle.grade.proofs.Grade.is_distance.Tie as tie
 

@@ -1,8 +1,8 @@
-use Rattle.grade.specs.Refusals.{refused, _orElse_, rangeRefusal}
+-- By the definition, from the calls. Assumes nothing.
 use mathlib.Core.Bool.{not, _&&_}
 use mathlib.Core.Path.{_∙_, ap₂}
--- By the definition, from the calls. Assumes nothing.
 use borrow.Author.Needs.{needs}
+use Rattle.grade.specs.Refusals.{refused, _orElse_, rangeRefusal}
 use Rattle.grade.proofs.Grade.range_refusal.Statement.{statement}
 use Rattle.grade.proofs.Grade.range_refusal.Tie as tie
 
@@ -18,10 +18,20 @@ coincident-requires c κs = search needs
 returns : tie.Need-returns
 unfolding rangeRefusal
 returns c =
-    let limits = c .before .before .before .before .before .before .before .before .before .refused .ensures ∙ (λ k. refused (not (c .before .before .before .before .before .before .before .before .before .before .before .before .in-limits .ensures k && c .before .before .before .before .before .before .before .before .before .before .before .ticks .ensures k && c .before .before .before .before .before .before .before .before .before .before .ticks2 .ensures k)) 1) in
-    let order = c .before .before .before .before .before .before .before .refused2 .ensures ∙ (λ k. refused (c .before .before .before .before .before .before .before .before .above .ensures k) 6) in
-    let distance = c .before .before .before .before .before .refused3 .ensures ∙ (λ k. refused (c .before .before .before .before .before .before .is-distance .ensures k) 7) in
-    let points = c .before .before .before .refused4 .ensures ∙ (λ k. refused (c .before .before .before .before .coincident .ensures k) 8) in
+    let c3 = c .before .before .before in
+    let c4 = c3 .before in
+    let c5 = c4 .before in
+    let c6 = c5 .before in
+    let c7 = c6 .before in
+    let c8 = c7 .before in
+    let c9 = c8 .before in
+    let c10 = c9 .before in
+    let c11 = c10 .before in
+    let c12 = c11 .before in
+    let limits = c9 .refused .ensures ∙ (λ k. refused (not (c12 .in-limits .ensures k && c11 .ticks .ensures k && c10 .ticks2 .ensures k)) 1) in
+    let order = c7 .refused2 .ensures ∙ (λ k. refused (c8 .above .ensures k) 6) in
+    let distance = c5 .refused3 .ensures ∙ (λ k. refused (c6 .is-distance .ensures k) 7) in
+    let points = c3 .refused4 .ensures ∙ (λ k. refused (c4 .coincident .ensures k) 8) in
     c .or-else3 .ensures ∙ ap₂ _orElse_ limits (c .before .or-else2 .ensures ∙ ap₂ _orElse_ order (c .before .before .or-else .ensures ∙ ap₂ _orElse_ distance points))
 
 pub range-refusal-spec : {M : Type 1} → statement M

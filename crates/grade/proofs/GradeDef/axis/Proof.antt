@@ -1,6 +1,6 @@
 -- By the kind. Assumes nothing.
-use Rattle.grade.specs.Certified.{defAxis}
 use borrow.Author.Needs.{needs}
+use Rattle.grade.specs.Certified.{defAxis}
 use Rattle.grade.proofs.GradeDef.axis.Statement.{statement}
 use Rattle.grade.proofs.GradeDef.axis.Tie as tie
 

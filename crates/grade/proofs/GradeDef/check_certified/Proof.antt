@@ -1,6 +1,6 @@
 -- By the kind. Assumes nothing.
-use Rattle.grade.specs.Certified.{certification}
 use borrow.Author.Needs.{needs}
+use Rattle.grade.specs.Certified.{certification}
 use Rattle.grade.proofs.GradeDef.check_certified.Statement.{statement}
 use Rattle.grade.proofs.GradeDef.check_certified.Tie as tie
 

@@ -1,9 +1,9 @@
 -- The level is read back from its bits. Assumes nothing.
+use mathlib.Core.List.{[], _∷_}
+use lib.IntN.{pos}
+use Rattle.exact.proofs.Signed.{back}
 use Rattle.grade.specs.Exact.{constantDef}
 use Rattle.grade.specs.declared.LevelKind.{LevelKind}
-use lib.IntN.{pos}
-use mathlib.Core.List.{[], _∷_}
-use Rattle.exact.proofs.Signed.{back}
 use Rattle.grade.proofs.GradeDef.constant.Statement.{statement}
 use Rattle.grade.proofs.GradeDef.constant.Tie as tie
 

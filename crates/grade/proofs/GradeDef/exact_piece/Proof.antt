@@ -1,6 +1,6 @@
 -- By the kind. Assumes nothing.
-use Rattle.grade.specs.Exact.{exactPiece}
 use borrow.Author.Needs.{needs}
+use Rattle.grade.specs.Exact.{exactPiece}
 use Rattle.grade.proofs.GradeDef.exact_piece.Statement.{statement}
 use Rattle.grade.proofs.GradeDef.exact_piece.Tie as tie
 

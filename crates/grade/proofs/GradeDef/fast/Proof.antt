@@ -1,9 +1,9 @@
 -- By the kind. Assumes nothing.
-use Rattle.grade.specs.Fast.{near, fast}
 use mathlib.Core.Path.{_∙_}
+use borrow.Author.Needs.{needs}
 use Rattle.exact.proofs.Size.{within-fits}
 use Rattle.exact.proofs.Signed.{heard, within-bits}
-use borrow.Author.Needs.{needs}
+use Rattle.grade.specs.Fast.{near, fast}
 use Rattle.grade.proofs.GradeDef.fast.Statement.{statement}
 use Rattle.grade.proofs.GradeDef.fast.Tie as tie
 
@@ -11,7 +11,9 @@ enum-told : tie.Need-enum-told
 enum-told c = search needs
 
 near-requires : tie.Need-near-requires
-near-requires c κs = within-bits 2097152 tt tt (c .before .before .before .before .pre .linear .start)
+near-requires c κs =
+    let c4 = c .before .before .before .before in
+    within-bits 2097152 tt tt (c4 .pre .linear .start)
 
 enum-told-2 : tie.Need-enum-told-2
 enum-told-2 c = search needs
@@ -22,7 +24,8 @@ fast-requires c κs = search needs
 returns : tie.Need-returns
 unfolding fast
 returns c =
-    let s = heard near (within-fits tt (c .before .before .before .before .before .pre .linear .start)) (c .near .ensures) in
+    let c5 = c .before .before .before .before .before in
+    let s = heard near (within-fits tt (c5 .pre .linear .start)) (c .near .ensures) in
     s ∙ rw (c .before .before .enum-told .given .1)
 
 returns-2 : tie.Need-returns-2

@@ -1,6 +1,6 @@
 -- By the definition. Assumes nothing.
-use Rattle.grade.specs.Intervals.{gradeIntervals}
 use borrow.Author.Needs.{needs}
+use Rattle.grade.specs.Intervals.{gradeIntervals}
 use Rattle.grade.proofs.GradeDef.intervals.Statement.{statement}
 use Rattle.grade.proofs.GradeDef.intervals.Tie as tie
 

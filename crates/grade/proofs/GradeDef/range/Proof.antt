@@ -1,8 +1,8 @@
 -- By the kind. Assumes nothing.
-use Rattle.grade.specs.Exact.{range}
+use borrow.Author.Needs.{needs}
 use Rattle.exact.proofs.Size.{within-fits}
 use Rattle.exact.proofs.Signed.{back}
-use borrow.Author.Needs.{needs}
+use Rattle.grade.specs.Exact.{range}
 use Rattle.grade.proofs.GradeDef.range.Statement.{statement}
 use Rattle.grade.proofs.GradeDef.range.Tie as tie
 
@@ -18,7 +18,8 @@ range-requires c κs = search needs
 returns : tie.Need-returns
 unfolding range
 returns c =
-    let s = back (within-fits tt (c .before .before .before .before .pre .0 .linear .start)) in
+    let c4 = c .before .before .before .before in
+    let s = back (within-fits tt (c4 .pre .0 .linear .start)) in
     rw (s, c .before .enum-told .given .1)
 
 returns-2 : tie.Need-returns-2

@@ -1,8 +1,8 @@
 -- By the kind. Assumes nothing.
-use Rattle.grade.proofs.Sizes.{distance-within, rise-within}
-use Rattle.grade.specs.Certified.{slopeBound}
-use Rattle.exact.proofs.Signed.{got, bit}
 use borrow.Author.Needs.{needs}
+use Rattle.exact.proofs.Signed.{got, bit}
+use Rattle.grade.specs.Certified.{slopeBound}
+use Rattle.grade.proofs.Sizes.{distance-within, rise-within}
 use Rattle.grade.proofs.GradeDef.slope_bound.Statement.{statement}
 use Rattle.grade.proofs.GradeDef.slope_bound.Tie as tie
 
@@ -25,8 +25,9 @@ returns c = rw (c .enum-told .given .1)
 returns-2 : tie.Need-returns-2
 unfolding slopeBound
 returns-2 c =
-    let p = c .before .before .before .before .before .pre .linear in
-    let g = c .before .before .before .before .before .args .self .linear in
+    let c5 = c .before .before .before .before .before in
+    let p = c5 .pre .linear in
+    let g = c5 .args .self .linear in
     let r = bit tt (got (c .before .rise .ensures) (rise-within g p)) in
     let d = bit tt (got (c .distance .ensures) (distance-within g p)) in
     rw (r .same, d .same, c .before .before .enum-told2 .given .1)

@@ -1,6 +1,6 @@
 -- By the kind. Assumes nothing.
-use Rattle.grade.specs.Intervals.{affine}
 use borrow.Author.Needs.{needs}
+use Rattle.grade.specs.Intervals.{affine}
 use Rattle.grade.proofs.GradeIntervals.affine.Statement.{statement}
 use Rattle.grade.proofs.GradeIntervals.affine.Tie as tie
 

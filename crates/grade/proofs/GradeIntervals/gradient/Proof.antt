@@ -1,6 +1,6 @@
 -- By the kind. Assumes nothing.
-use Rattle.grade.specs.Intervals.{gradient}
 use borrow.Author.Needs.{needs}
+use Rattle.grade.specs.Intervals.{gradient}
 use Rattle.grade.proofs.GradeIntervals.gradient.Statement.{statement}
 use Rattle.grade.proofs.GradeIntervals.gradient.Tie as tie
 

@@ -1,6 +1,6 @@
 -- By the kind. Assumes nothing.
-use Rattle.grade.specs.Intervals.{interval}
 use borrow.Author.Needs.{needs}
+use Rattle.grade.specs.Intervals.{interval}
 use Rattle.grade.proofs.GradeIntervals.interval.Statement.{statement}
 use Rattle.grade.proofs.GradeIntervals.interval.Tie as tie
 
@@ -22,7 +22,9 @@ returns c = rw (c .before .enum-told .given .1)
 
 returns-2 : tie.Need-returns-2
 unfolding interval
-returns-2 c = rw (c .level-of .ensures, c .before .clamp01 .ensures, c .before .before .interval-parameter .ensures, c .before .before .before .enum-told2 .given .1)
+returns-2 c =
+    let c3 = c .before .before .before in
+    rw (c .level-of .ensures, c .before .clamp01 .ensures, c .before .before .interval-parameter .ensures, c3 .enum-told2 .given .1)
 
 pub interval-spec : {M : Type 1} → statement M
 interval-spec =

@@ -1,6 +1,6 @@
 -- By the kind. Assumes nothing.
-use Rattle.grade.specs.Intervals.{piece}
 use borrow.Author.Needs.{needs}
+use Rattle.grade.specs.Intervals.{piece}
 use Rattle.grade.proofs.GradeIntervals.piece.Statement.{statement}
 use Rattle.grade.proofs.GradeIntervals.piece.Tie as tie
 

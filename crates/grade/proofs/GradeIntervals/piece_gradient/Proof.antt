@@ -1,6 +1,6 @@
 -- By the piece. Assumes nothing.
-use Rattle.grade.specs.Intervals.{pieceGradient}
 use borrow.Author.Needs.{needs}
+use Rattle.grade.specs.Intervals.{pieceGradient}
 use Rattle.grade.proofs.GradeIntervals.piece_gradient.Statement.{statement}
 use Rattle.grade.proofs.GradeIntervals.piece_gradient.Tie as tie
 

@@ -1,29 +1,32 @@
 -- The corner and its difference from the anchor keep the sizes that the calls ask. Assumes nothing.
-use Rattle.grade.proofs.Sizes.{minus-within, corner-within, at-corner-within}
+use mathlib.Core.Path.{ap, _∙_, subst⁻¹}
+use Rattle.exact.proofs.Signed.{got, bit}
 use Rattle.grade.specs.Fits.{Within3}
 use Rattle.grade.specs.Exact.{atCorner}
 use Rattle.grade.specs.Grade.{minus, dot}
-use mathlib.Core.Path.{ap, _∙_, subst⁻¹}
-use Rattle.exact.proofs.Signed.{got, bit}
+use Rattle.grade.proofs.Sizes.{minus-within, corner-within, at-corner-within}
 use Rattle.grade.proofs.Linear.at_corner.Statement.{statement}
 use Rattle.grade.proofs.Linear.at_corner.Tie as tie
 
 minus-requires : tie.Need-minus-requires
 minus-requires c κs =
-    let p = c .before .before .before .pre in
-    (subst⁻¹ (Within3 1048576) (c .corner .ensures) (corner-within (c .before .before .before .args .self .direction) (p .1 .0) (p .1 .1)), p .0 .from)
+    let c3 = c .before .before .before in
+    let p = c3 .pre in
+    (subst⁻¹ (Within3 1048576) (c .corner .ensures) (corner-within (c3 .args .self .direction) (p .1 .0) (p .1 .1)), p .0 .from)
 
 dot-requires : tie.Need-dot-requires
 dot-requires c κs =
-    let p = c .before .before .before .before .pre in
-    let e = c .minus .ensures ∙ ap (λ q. minus q (c .before .before .before .before .args .self .from)) (c .before .corner .ensures) in
-    (subst⁻¹ (Within3 2097152) e (minus-within (corner-within (c .before .before .before .before .args .self .direction) (p .1 .0) (p .1 .1)) (p .0 .from)), p .0 .direction)
+    let c4 = c .before .before .before .before in
+    let p = c4 .pre in
+    let e = c .minus .ensures ∙ ap (λ q. minus q (c4 .args .self .from)) (c .before .corner .ensures) in
+    (subst⁻¹ (Within3 2097152) e (minus-within (corner-within (c4 .args .self .direction) (p .1 .0) (p .1 .1)) (p .0 .from)), p .0 .direction)
 
 returns : tie.Need-returns
 unfolding atCorner
 returns c =
-    let g = c .before .before .before .before .before .args .self in
-    let p = c .before .before .before .before .before .pre in
+    let c5 = c .before .before .before .before .before in
+    let g = c5 .args .self in
+    let p = c5 .pre in
     let e = c .before .minus .ensures ∙ ap (λ q. minus q (g .from)) (c .before .before .corner .ensures) in
     bit tt (got (c .dot .ensures ∙ ap (λ q. dot q (g .direction)) e) (at-corner-within g (p .0) (p .1 .0) (p .1 .1))) .same
 

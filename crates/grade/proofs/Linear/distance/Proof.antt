@@ -1,9 +1,9 @@
 -- Three sizes of at most 2^21 add up. Assumes nothing.
-use Rattle.grade.proofs.Sizes.{size-within}
-use Rattle.grade.specs.Certified.{size, distance}
 use mathlib.Core.Path.{_∙_, ap}
-use Rattle.exact.proofs.Signed.{is, got, fits, bit, add}
 use borrow.Author.Needs.{needs}
+use Rattle.exact.proofs.Signed.{is, got, fits, bit, add}
+use Rattle.grade.specs.Certified.{size, distance}
+use Rattle.grade.proofs.Sizes.{size-within}
 use Rattle.grade.proofs.Linear.distance.Statement.{statement}
 use Rattle.grade.proofs.Linear.distance.Tie as tie
 
@@ -21,7 +21,8 @@ size-requires-2 c κs = search needs
 
 add-result : tie.Need-add-result
 add-result c =
-    let p = c .before .before .before .before .before .pre .direction in
+    let c5 = c .before .before .before .before .before in
+    let p = c5 .pre .direction in
     let x = bit tt (got (c .before .before .size .ensures ∙ ap size (bit tt (is (p .x)) .same)) (size-within (p .x))) in
     let y = bit tt (got (c .size2 .ensures ∙ ap size (bit tt (is (p .y)) .same)) (size-within (p .y))) in
     fits tt (add x y)
@@ -34,8 +35,10 @@ size-requires-3 c κs = search needs
 
 add-result-2 : tie.Need-add-result-2
 add-result-2 c =
-    let p = c .before .before .before .before .before .before .before .pre .direction in
-    let x = bit tt (got (c .before .before .before .before .size .ensures ∙ ap size (bit tt (is (p .x)) .same)) (size-within (p .x))) in
+    let c4 = c .before .before .before .before in
+    let c7 = c4 .before .before .before in
+    let p = c7 .pre .direction in
+    let x = bit tt (got (c4 .size .ensures ∙ ap size (bit tt (is (p .x)) .same)) (size-within (p .x))) in
     let y = bit tt (got (c .before .before .size2 .ensures ∙ ap size (bit tt (is (p .y)) .same)) (size-within (p .y))) in
     let z = bit tt (got (c .size3 .ensures ∙ ap size (bit tt (is (p .z)) .same)) (size-within (p .z))) in
     fits tt (add (bit tt (add x y)) z)
@@ -43,8 +46,10 @@ add-result-2 c =
 returns : tie.Need-returns
 unfolding distance
 returns c =
-    let p = c .before .before .before .before .before .before .before .pre .direction in
-    let x = bit tt (got (c .before .before .before .before .size .ensures ∙ ap size (bit tt (is (p .x)) .same)) (size-within (p .x))) in
+    let c4 = c .before .before .before .before in
+    let c7 = c4 .before .before .before in
+    let p = c7 .pre .direction in
+    let x = bit tt (got (c4 .size .ensures ∙ ap size (bit tt (is (p .x)) .same)) (size-within (p .x))) in
     let y = bit tt (got (c .before .before .size2 .ensures ∙ ap size (bit tt (is (p .y)) .same)) (size-within (p .y))) in
     let z = bit tt (got (c .size3 .ensures ∙ ap size (bit tt (is (p .z)) .same)) (size-within (p .z))) in
     bit tt (add (bit tt (add x y)) z) .same

@@ -1,12 +1,12 @@
 -- The two corners against 0 and L. Assumes nothing.
-use Rattle.grade.proofs.Sizes.{at-corner-within}
-use Rattle.grade.specs.Exact.{chosen, linearPiece}
-use lib.Signed.{leZ}
-use lib.IntN.{pos}
 use mathlib.Core.Bool.{_&&_}
 use mathlib.Core.Path.{_∙_}
-use Rattle.exact.proofs.Signed.{is, got, bit}
 use borrow.Author.Needs.{needs}
+use lib.Signed.{leZ}
+use lib.IntN.{pos}
+use Rattle.exact.proofs.Signed.{is, got, bit}
+use Rattle.grade.specs.Exact.{chosen, linearPiece}
+use Rattle.grade.proofs.Sizes.{at-corner-within}
 use Rattle.grade.proofs.Linear.exact_piece.Statement.{statement}
 use Rattle.grade.proofs.Linear.exact_piece.Tie as tie
 
@@ -19,9 +19,11 @@ at-corner-requires-2 c κs = search needs
 returns : tie.Need-returns
 unfolding linearPiece
 returns c =
-    let g = c .before .before .before .before .args .self in
-    let p = c .before .before .before .before .pre in
-    let t = bit tt (got (c .before .before .before .at-corner .ensures) (at-corner-within g (p .0) (p .1 .0) (p .1 .1))) .same in
+    let c3 = c .before .before .before in
+    let c4 = c3 .before in
+    let g = c4 .args .self in
+    let p = c4 .pre in
+    let t = bit tt (got (c3 .at-corner .ensures) (at-corner-within g (p .0) (p .1 .0) (p .1 .1))) .same in
     let u = bit tt (got (c .before .before .at-corner2 .ensures) (at-corner-within g (p .0) (p .1 .1) (p .1 .0))) .same in
     let l = bit tt (is (p .0 .length)) .same in
     c .chosen .ensures ∙ (λ k. chosen (leZ (u k) (pos 0)) (leZ (l k) (t k)) (leZ (pos 0) (t k) && leZ (u k) (l k)))

@@ -1,29 +1,35 @@
 -- The held numerator is within L's bound, and each step fits. Assumes nothing.
-use Rattle.grade.proofs.Sizes.{held-within}
-use Rattle.grade.specs.Exact.{held, levelOver}
 use mathlib.Core.Path.{_∙_, ap₂}
 use Rattle.exact.proofs.Signed.{is, got, fits, bit, add, sub, mul}
+use Rattle.grade.specs.Exact.{held, levelOver}
+use Rattle.grade.proofs.Sizes.{held-within}
 use Rattle.grade.proofs.Linear.level_over.Statement.{statement}
 use Rattle.grade.proofs.Linear.level_over.Tie as tie
 
 mul-result : tie.Need-mul-result
-mul-result c = fits tt (mul (bit tt (is (c .before .before .before .pre .0 .start))) (bit tt (is (c .before .before .before .pre .0 .length))))
+mul-result c =
+    let c3 = c .before .before .before in
+    fits tt (mul (bit tt (is (c3 .pre .0 .start))) (bit tt (is (c3 .pre .0 .length))))
 
 sub-result : tie.Need-sub-result
-sub-result c = fits tt (sub (bit tt (is (c .before .before .before .before .before .before .pre .0 .end))) (bit tt (is (c .before .before .before .before .before .before .pre .0 .start))))
+sub-result c =
+    let c6 = c .before .before .before .before .before .before in
+    fits tt (sub (bit tt (is (c6 .pre .0 .end))) (bit tt (is (c6 .pre .0 .start))))
 
 mul-result-2 : tie.Need-mul-result-2
 mul-result-2 c =
-    let g = c .before .before .before .before .before .before .pre .0 in
-    let t = bit tt (is (c .before .before .before .before .before .before .pre .1)) in
+    let c6 = c .before .before .before .before .before .before in
+    let g = c6 .pre .0 in
+    let t = bit tt (is (c6 .pre .1)) in
     let l = bit tt (is (g .length)) in
     let h = bit tt (got (c .before .before .held .ensures ∙ ap₂ held (t .same) (l .same)) (held-within (t .within) (l .within))) in
     fits tt (mul h (bit tt (sub (bit tt (is (g .end))) (bit tt (is (g .start))))))
 
 add-result : tie.Need-add-result
 add-result c =
-    let g = c .before .before .before .before .before .before .pre .0 in
-    let t = bit tt (is (c .before .before .before .before .before .before .pre .1)) in
+    let c6 = c .before .before .before .before .before .before in
+    let g = c6 .pre .0 in
+    let t = bit tt (is (c6 .pre .1)) in
     let l = bit tt (is (g .length)) in
     let s = bit tt (is (g .start)) in
     let h = bit tt (got (c .before .before .held .ensures ∙ ap₂ held (t .same) (l .same)) (held-within (t .within) (l .within))) in
@@ -32,8 +38,9 @@ add-result c =
 returns : tie.Need-returns
 unfolding levelOver
 returns c =
-    let g = c .before .before .before .before .before .before .pre .0 in
-    let t = bit tt (is (c .before .before .before .before .before .before .pre .1)) in
+    let c6 = c .before .before .before .before .before .before in
+    let g = c6 .pre .0 in
+    let t = bit tt (is (c6 .pre .1)) in
     let l = bit tt (is (g .length)) in
     let s = bit tt (is (g .start)) in
     let h = bit tt (got (c .before .before .held .ensures ∙ ap₂ held (t .same) (l .same)) (held-within (t .within) (l .within))) in

@@ -1,11 +1,11 @@
 -- The difference of the anchors and its square fit. Assumes nothing.
-use Rattle.grade.proofs.Sizes.{minus-within, dot-within}
+use mathlib.Core.Path.{_∙_, subst⁻¹}
+use borrow.Author.Needs.{needs}
+use Rattle.exact.proofs.Signed.{got, bit, back}
 use Rattle.grade.specs.Fits.{Within3}
 use Rattle.grade.specs.Exact.{linearOf}
 use Rattle.grade.specs.Grade.{dot}
-use mathlib.Core.Path.{_∙_, subst⁻¹}
-use Rattle.exact.proofs.Signed.{got, bit, back}
-use borrow.Author.Needs.{needs}
+use Rattle.grade.proofs.Sizes.{minus-within, dot-within}
 use Rattle.grade.proofs.Linear.new.Statement.{statement}
 use Rattle.grade.proofs.Linear.new.Tie as tie
 

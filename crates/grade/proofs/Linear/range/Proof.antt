@@ -1,9 +1,9 @@
 -- The two corners, their levels, in order. Assumes nothing.
-use Rattle.grade.proofs.Sizes.{at-corner-within, level-within}
-use Rattle.grade.specs.Exact.{levelOver, boundsOf, linearRange}
 use mathlib.Core.Path.{_∙_, ap}
-use Rattle.exact.proofs.Signed.{is, got, bit, asked}
 use borrow.Author.Needs.{needs}
+use Rattle.exact.proofs.Signed.{is, got, bit, asked}
+use Rattle.grade.specs.Exact.{levelOver, boundsOf, linearRange}
+use Rattle.grade.proofs.Sizes.{at-corner-within, level-within}
 use Rattle.grade.proofs.Linear.range.Statement.{statement}
 use Rattle.grade.proofs.Linear.range.Tie as tie
 
@@ -20,17 +20,22 @@ at-corner-requires-2 c κs = search needs
 
 level-over-requires-2 : tie.Need-level-over-requires-2
 level-over-requires-2 c κs =
-    let p = c .before .before .before .pre in
-    (p .0, asked tt (bit tt (got (c .at-corner2 .ensures) (at-corner-within (c .before .before .before .args .self) (p .0) (p .1 .1) (p .1 .0)))))
+    let c3 = c .before .before .before in
+    let p = c3 .pre in
+    (p .0, asked tt (bit tt (got (c .at-corner2 .ensures) (at-corner-within (c3 .args .self) (p .0) (p .1 .1) (p .1 .0)))))
 
 returns : tie.Need-returns
 unfolding linearRange
 returns c =
-    let g = c .before .before .before .before .before .before .args .self in
-    let p = c .before .before .before .before .before .before .pre in
-    let t = bit tt (got (c .before .before .before .before .before .at-corner .ensures) (at-corner-within g (p .0) (p .1 .0) (p .1 .1))) in
-    let u = bit tt (got (c .before .before .before .at-corner2 .ensures) (at-corner-within g (p .0) (p .1 .1) (p .1 .0))) in
-    let a = bit tt (got (c .before .before .before .before .level-over .ensures ∙ ap (levelOver g) (t .same)) (level-within g (p .0) (t .within))) in
+    let c3 = c .before .before .before in
+    let c4 = c3 .before in
+    let c5 = c4 .before in
+    let c6 = c5 .before in
+    let g = c6 .args .self in
+    let p = c6 .pre in
+    let t = bit tt (got (c5 .at-corner .ensures) (at-corner-within g (p .0) (p .1 .0) (p .1 .1))) in
+    let u = bit tt (got (c3 .at-corner2 .ensures) (at-corner-within g (p .0) (p .1 .1) (p .1 .0))) in
+    let a = bit tt (got (c4 .level-over .ensures ∙ ap (levelOver g) (t .same)) (level-within g (p .0) (t .within))) in
     let b = bit tt (got (c .before .before .level-over2 .ensures ∙ ap (levelOver g) (u .same)) (level-within g (p .0) (u .within))) in
     let l = bit tt (is (p .0 .length)) in
     c .ordered .ensures ∙ (λ k. boundsOf (a .same k) (b .same k) (l .same k))

@@ -1,8 +1,8 @@
 -- The difference of two counts fits. Assumes nothing.
-use Rattle.grade.proofs.Sizes.{size-within}
-use Rattle.grade.specs.Certified.{size, rise}
 use mathlib.Core.Path.{_∙_, ap}
 use Rattle.exact.proofs.Signed.{is, got, fits, bit, sub, asked}
+use Rattle.grade.specs.Certified.{size, rise}
+use Rattle.grade.proofs.Sizes.{size-within}
 use Rattle.grade.proofs.Linear.rise.Statement.{statement}
 use Rattle.grade.proofs.Linear.rise.Tie as tie
 
@@ -15,7 +15,8 @@ size-requires c κs = asked tt (bit tt (sub (bit tt (is (c .before .before .pre 
 returns : tie.Need-returns
 unfolding rise
 returns c =
-    let d = bit tt (sub (bit tt (is (c .before .before .before .pre .end))) (bit tt (is (c .before .before .before .pre .start)))) in
+    let c3 = c .before .before .before in
+    let d = bit tt (sub (bit tt (is (c3 .pre .end))) (bit tt (is (c3 .pre .start)))) in
     bit tt (got (c .size .ensures ∙ ap size (d .same)) (size-within (d .within))) .same
 
 pub rise-spec : {M : Type 1} → statement M

@@ -1,9 +1,9 @@
 -- Each entry is read back from its bits. Assumes nothing.
-use Rattle.grade.specs.Intervals.{slopeAlong}
 use mathlib.Core.List.{[], _∷_}
+use borrow.Author.Needs.{needs}
 use Rattle.exact.proofs.Size.{within-fits}
 use Rattle.exact.proofs.Signed.{heard}
-use borrow.Author.Needs.{needs}
+use Rattle.grade.specs.Intervals.{slopeAlong}
 use Rattle.grade.proofs.Linear.slopes.Statement.{statement}
 use Rattle.grade.proofs.Linear.slopes.Tie as tie
 
@@ -27,9 +27,11 @@ slope-along-requires-3 c κs = search needs
 
 returns : tie.Need-returns
 returns c =
-    let g = c .before .before .before .before .before .before .before .args .self in
-    let p = c .before .before .before .before .before .before .before .pre .direction in
-    let x = heard (slopeAlong g) (within-fits tt (p .x)) (c .before .before .before .before .slope-along .ensures) in
+    let c4 = c .before .before .before .before in
+    let c7 = c4 .before .before .before in
+    let g = c7 .args .self in
+    let p = c7 .pre .direction in
+    let x = heard (slopeAlong g) (within-fits tt (p .x)) (c4 .slope-along .ensures) in
     let y = heard (slopeAlong g) (within-fits tt (p .y)) (c .before .before .slope-along2 .ensures) in
     let z = heard (slopeAlong g) (within-fits tt (p .z)) (c .slope-along3 .ensures) in
     λ k. x k ∷ y k ∷ z k ∷ []

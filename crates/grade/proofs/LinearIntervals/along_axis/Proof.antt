@@ -1,6 +1,6 @@
 -- By the definition, from the calls. Assumes nothing.
-use Rattle.grade.specs.Intervals.{alongAxis}
 use borrow.Author.Needs.{needs}
+use Rattle.grade.specs.Intervals.{alongAxis}
 use Rattle.grade.proofs.LinearIntervals.along_axis.Statement.{statement}
 use Rattle.grade.proofs.LinearIntervals.along_axis.Tie as tie
 

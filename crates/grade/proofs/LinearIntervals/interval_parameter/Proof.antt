@@ -1,6 +1,6 @@
 -- By the definition, from the calls. Assumes nothing.
-use Rattle.grade.specs.Intervals.{parameter}
 use borrow.Author.Needs.{needs}
+use Rattle.grade.specs.Intervals.{parameter}
 use Rattle.grade.proofs.LinearIntervals.interval_parameter.Statement.{statement}
 use Rattle.grade.proofs.LinearIntervals.interval_parameter.Tie as tie
 

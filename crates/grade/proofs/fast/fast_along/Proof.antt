@@ -1,8 +1,8 @@
 -- The numbers are read back from their bits. Assumes nothing.
-use Rattle.grade.specs.Fast.{near}
+use borrow.Author.Needs.{needs}
 use lib.Ieee.{binary64, sub, mul}
 use Rattle.exact.proofs.Signed.{heard}
-use borrow.Author.Needs.{needs}
+use Rattle.grade.specs.Fast.{near}
 use Rattle.grade.proofs.fast.fast_along.Statement.{statement}
 use Rattle.grade.proofs.fast.fast_along.Tie as tie
 

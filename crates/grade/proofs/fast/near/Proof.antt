@@ -1,7 +1,7 @@
 -- The number is read back from its bits. Assumes nothing.
-use Rattle.interval.specs.Nearest.{nearest}
 use lib.Dec.{lit<, lit≤}
 use Rattle.exact.proofs.Signed.{heard, within-bits}
+use Rattle.interval.specs.Nearest.{nearest}
 use Rattle.grade.proofs.fast.near.Statement.{statement}
 use Rattle.grade.proofs.fast.near.Tie as tie
 

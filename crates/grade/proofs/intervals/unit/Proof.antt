@@ -1,7 +1,7 @@
 -- The number is read back from its bits. Assumes nothing.
-use Rattle.interval.specs.Nearest.{fromRational}
 use lib.Dec.{lit<, lit≤}
 use Rattle.exact.proofs.Signed.{heard, within-bits}
+use Rattle.interval.specs.Nearest.{fromRational}
 use Rattle.grade.proofs.intervals.unit.Statement.{statement}
 use Rattle.grade.proofs.intervals.unit.Tie as tie
 

@@ -1,9 +1,9 @@
 -- Each entry is read back from its bits. Assumes nothing.
-use Rattle.grade.specs.Intervals.{unit}
 use mathlib.Core.List.{[], _∷_}
+use borrow.Author.Needs.{needs}
 use Rattle.exact.proofs.Size.{within-fits}
 use Rattle.exact.proofs.Signed.{heard}
-use borrow.Author.Needs.{needs}
+use Rattle.grade.specs.Intervals.{unit}
 use Rattle.grade.proofs.intervals.units.Statement.{statement}
 use Rattle.grade.proofs.intervals.units.Tie as tie
 
@@ -27,8 +27,10 @@ unit-requires-3 c κs = search needs
 
 returns : tie.Need-returns
 returns c =
-    let p = c .before .before .before .before .before .before .pre in
-    let x = heard unit (within-fits tt (p .x)) (c .before .before .before .before .unit .ensures) in
+    let c4 = c .before .before .before .before in
+    let c6 = c4 .before .before in
+    let p = c6 .pre in
+    let x = heard unit (within-fits tt (p .x)) (c4 .unit .ensures) in
     let y = heard unit (within-fits tt (p .y)) (c .before .before .unit2 .ensures) in
     let z = heard unit (within-fits tt (p .z)) (c .unit3 .ensures) in
     λ k. x k ∷ y k ∷ z k ∷ []

@@ -1,9 +1,9 @@
-use Rattle.grade.specs.Grade.{at}
 -- Each entry is read back from its bits. Assumes nothing.
 use mathlib.Core.Bool.{_&&_}
-use Rattle.grade.specs.Grade.{tick}
-use Rattle.exact.proofs.Signed.{heard}
 use borrow.Author.Needs.{needs}
+use Rattle.exact.proofs.Signed.{heard}
+use Rattle.grade.specs.Grade.{at}
+use Rattle.grade.specs.Grade.{tick}
 use Rattle.grade.proofs.limits.ticks.Statement.{statement}
 use Rattle.grade.proofs.limits.ticks.Tie as tie
 
@@ -18,9 +18,13 @@ array-copy-out-tick-3 c = search needs
 
 returns : tie.Need-returns
 returns c =
-    let v = c .before .before .before .before .before .before .args .t1 in
-    let x = heard tick {x = at v 0} (record { sfits = c .before .before .before .before .before .tick-arg .given }) (c .before .before .before .before .tick .ensures) in
-    let y = heard tick {x = at v 1} (record { sfits = c .before .before .before .tick-arg2 .given }) (c .before .before .tick2 .ensures) in
+    let c3 = c .before .before .before in
+    let c4 = c3 .before in
+    let c5 = c4 .before in
+    let c6 = c5 .before in
+    let v = c6 .args .t1 in
+    let x = heard tick {x = at v 0} (record { sfits = c5 .tick-arg .given }) (c4 .tick .ensures) in
+    let y = heard tick {x = at v 1} (record { sfits = c3 .tick-arg2 .given }) (c .before .before .tick2 .ensures) in
     let z = heard tick {x = at v 2} (record { sfits = c .before .tick-arg3 .given }) (c .tick3 .ensures) in
     λ k. x k && y k && z k
 

@@ -1,13 +1,13 @@
-use Rattle.grade.proofs.RangeLaws.{range-holds}
+-- The refusals say what the calls behind them ask. Assumes nothing.
+use mathlib.Core.Path.{sym, ap, _∙_, subst⁻¹}
+use borrow.Author.Tests.{ne-eqb}
+use borrow.Author.Needs.{needs}
 use Rattle.grade.specs.Holds.{RangeHolds}
 use Rattle.grade.specs.Exact.{range}
 use Rattle.grade.specs.Calls.{rangeValues}
-use borrow.Author.Tests.{ne-eqb}
--- The refusals say what the calls behind them ask. Assumes nothing.
-use Rattle.grade.proofs.Accepted.{accepted, compiled-fits}
 use Rattle.grade.specs.Fits.{DefFits}
-use mathlib.Core.Path.{sym, ap, _∙_, subst⁻¹}
-use borrow.Author.Needs.{needs}
+use Rattle.grade.proofs.RangeLaws.{range-holds}
+use Rattle.grade.proofs.Accepted.{accepted, compiled-fits}
 use Rattle.grade.proofs.range.grade_range.Statement.{statement}
 use Rattle.grade.proofs.range.grade_range.Tie as tie
 
@@ -25,16 +25,19 @@ compile-requires c κs = accepted _ _ _ (sym (c .before .range-refusal .ensures)
 
 range-requires : tie.Need-range-requires
 range-requires c κs =
-    let a = accepted (c .before .before .before .args .grade) (c .before .before .before .args .lo) (c .before .before .before .args .hi) (sym (c .before .before .range-refusal .ensures) ∙ c .before .if1 .left) in
-    (subst⁻¹ DefFits (c .compile .ensures) (compiled-fits (c .before .before .before .args .grade) (a .limits) (a .apart)), (a .low, a .high))
+    let c3 = c .before .before .before in
+    let a = accepted (c3 .args .grade) (c3 .args .lo) (c3 .args .hi) (sym (c .before .before .range-refusal .ensures) ∙ c .before .if1 .left) in
+    (subst⁻¹ DefFits (c .compile .ensures) (compiled-fits (c3 .args .grade) (a .limits) (a .apart)), (a .low, a .high))
 
 returns-2 : tie.Need-returns-2
 unfolding rangeValues
 returns-2 c =
-    let g = c .before .before .before .before .args .grade in
-    let lo = c .before .before .before .before .args .lo in
-    let hi = c .before .before .before .before .args .hi in
-    let e = sym (c .before .before .before .range-refusal .ensures) ∙ c .before .before .if1 .left in
+    let c3 = c .before .before .before in
+    let c4 = c3 .before in
+    let g = c4 .args .grade in
+    let lo = c4 .args .lo in
+    let hi = c4 .args .hi in
+    let e = sym (c3 .range-refusal .ensures) ∙ c .before .before .if1 .left in
     let b = c .range .ensures ∙ ap (λ d. range d lo hi) (c .before .compile .ensures) in
     ((sym e, rw (e, b)), subst⁻¹ (RangeHolds g lo hi) b (range-holds g lo hi (accepted g lo hi e .apart)))
 

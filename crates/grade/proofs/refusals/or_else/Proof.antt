@@ -1,5 +1,5 @@
-use borrow.Author.Tests.{ne-eqb}
 -- By the test. Assumes nothing.
+use borrow.Author.Tests.{ne-eqb}
 use Rattle.grade.proofs.refusals.or_else.Statement.{statement}
 use Rattle.grade.proofs.refusals.or_else.Tie as tie
 

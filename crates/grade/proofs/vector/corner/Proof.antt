@@ -1,15 +1,15 @@
-use Rattle.grade.specs.Grade.{at}
 -- Each entry of the corner is an entry of the box, read back from its bits. Assumes nothing.
-use Rattle.grade.specs.Exact.{toward, corner}
-use Rattle.exact.proofs.Choice.{choose}
-use mir.Val.{toZ, ofZ, SFits}
-use mir.Syntax.{w64}
-use lib.Signed.{ltZ}
-use lib.IntN.{ℤ, pos}
 use mathlib.Core.List.{[], _∷_}
 use mathlib.Core.Path.{_≡_, _∙_, subst⁻¹}
-use Rattle.exact.proofs.Signed.{back}
 use borrow.Author.Needs.{needs}
+use lib.Signed.{ltZ}
+use lib.IntN.{ℤ, pos}
+use mir.Val.{toZ, ofZ, SFits}
+use mir.Syntax.{w64}
+use Rattle.exact.proofs.Choice.{choose}
+use Rattle.exact.proofs.Signed.{back}
+use Rattle.grade.specs.Grade.{at}
+use Rattle.grade.specs.Exact.{toward, corner}
 use Rattle.grade.proofs.vector.corner.Statement.{statement}
 use Rattle.grade.proofs.vector.corner.Tie as tie
 
@@ -49,12 +49,22 @@ array-copy-out-toward-9 c = search needs
 returns : tie.Need-returns
 unfolding corner
 returns c =
-    let d = c .before .before .before .before .before .before .before .before .before .before .before .before .args .t1 in
-    let a = c .before .before .before .before .before .before .before .before .before .before .before .before .args .t2 in
-    let b = c .before .before .before .before .before .before .before .before .before .before .before .before .args .t3 in
-    let x = picked (at d 0) (at a 0) (at b 0) (record { sfits = c .before .before .before .before .before .before .before .before .before .before .before .toward-arg .given }) (record { sfits = c .before .before .before .before .before .before .before .before .before .before .toward-arg2 .given }) (record { sfits = c .before .before .before .before .before .before .before .before .before .toward-arg3 .given }) (c .before .before .before .before .before .before .before .before .toward .ensures) in
-    let y = picked (at d 1) (at a 1) (at b 1) (record { sfits = c .before .before .before .before .before .before .before .toward-arg4 .given }) (record { sfits = c .before .before .before .before .before .before .toward-arg5 .given }) (record { sfits = c .before .before .before .before .before .toward-arg6 .given }) (c .before .before .before .before .toward2 .ensures) in
-    let z = picked (at d 2) (at a 2) (at b 2) (record { sfits = c .before .before .before .toward-arg7 .given }) (record { sfits = c .before .before .toward-arg8 .given }) (record { sfits = c .before .toward-arg9 .given }) (c .toward3 .ensures) in
+    let c3 = c .before .before .before in
+    let c4 = c3 .before in
+    let c5 = c4 .before in
+    let c6 = c5 .before in
+    let c7 = c6 .before in
+    let c8 = c7 .before in
+    let c9 = c8 .before in
+    let c10 = c9 .before in
+    let c11 = c10 .before in
+    let c12 = c11 .before in
+    let d = c12 .args .t1 in
+    let a = c12 .args .t2 in
+    let b = c12 .args .t3 in
+    let x = picked (at d 0) (at a 0) (at b 0) (record { sfits = c11 .toward-arg .given }) (record { sfits = c10 .toward-arg2 .given }) (record { sfits = c9 .toward-arg3 .given }) (c8 .toward .ensures) in
+    let y = picked (at d 1) (at a 1) (at b 1) (record { sfits = c7 .toward-arg4 .given }) (record { sfits = c6 .toward-arg5 .given }) (record { sfits = c5 .toward-arg6 .given }) (c4 .toward2 .ensures) in
+    let z = picked (at d 2) (at a 2) (at b 2) (record { sfits = c3 .toward-arg7 .given }) (record { sfits = c .before .before .toward-arg8 .given }) (record { sfits = c .before .toward-arg9 .given }) (c .toward3 .ensures) in
     λ k. x k ∷ y k ∷ z k ∷ []
 
 pub corner-spec : {M : Type 1} → statement M

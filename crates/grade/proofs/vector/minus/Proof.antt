@@ -1,8 +1,8 @@
 -- Differences of ticks fit. Assumes nothing.
-use Rattle.grade.specs.Grade.{minus}
 use mathlib.Core.List.{[], _∷_}
-use Rattle.exact.proofs.Signed.{is, fits, bit, sub}
 use borrow.Author.Needs.{needs}
+use Rattle.exact.proofs.Signed.{is, fits, bit, sub}
+use Rattle.grade.specs.Grade.{minus}
 use Rattle.grade.proofs.vector.minus.Statement.{statement}
 use Rattle.grade.proofs.vector.minus.Tie as tie
 
@@ -22,7 +22,9 @@ array-copy-out-t17 : tie.Need-array-copy-out-t17
 array-copy-out-t17 c = search needs
 
 sub-t18 : tie.Need-sub-t18
-sub-t18 c = fits tt (sub (bit tt (is (c .before .before .before .before .pre .0 .y))) (bit tt (is (c .before .before .before .before .pre .1 .y))))
+sub-t18 c =
+    let c4 = c .before .before .before .before in
+    fits tt (sub (bit tt (is (c4 .pre .0 .y))) (bit tt (is (c4 .pre .1 .y))))
 
 array-copy-out-t21 : tie.Need-array-copy-out-t21
 array-copy-out-t21 c = search needs
@@ -31,13 +33,16 @@ array-copy-out-t24 : tie.Need-array-copy-out-t24
 array-copy-out-t24 c = search needs
 
 sub-t25 : tie.Need-sub-t25
-sub-t25 c = fits tt (sub (bit tt (is (c .before .before .before .before .before .before .pre .0 .z))) (bit tt (is (c .before .before .before .before .before .before .pre .1 .z))))
+sub-t25 c =
+    let c6 = c .before .before .before .before .before .before in
+    fits tt (sub (bit tt (is (c6 .pre .0 .z))) (bit tt (is (c6 .pre .1 .z))))
 
 returns : tie.Need-returns
 unfolding minus
 returns c =
-    let a = c .before .before .before .before .before .before .pre .0 in
-    let b = c .before .before .before .before .before .before .pre .1 in
+    let c6 = c .before .before .before .before .before .before in
+    let a = c6 .pre .0 in
+    let b = c6 .pre .1 in
     let x = bit tt (sub (bit tt (is (a .x))) (bit tt (is (b .x)))) in
     let y = bit tt (sub (bit tt (is (a .y))) (bit tt (is (b .y)))) in
     let z = bit tt (sub (bit tt (is (a .z))) (bit tt (is (b .z)))) in
