@@ -86,7 +86,7 @@ module _ (g : Grade) (s : Sizes g) (apart : pos 0 <ℤ lengthSq g) where
         to : In 12 (inUnits (whole (at (direction g) i))) (boxAt (units (direction g)) i)
         to = subst (In 12 (inUnits (whole (at (direction g) i)))) (sym (units-at (direction g) i l)) (unit-encloses 11 (at (direction g) i) tt (within-at direction-within i l .abs))
 
-    -- "t = (p−from)·d / L"
+    -- what the parameter's interval holds
     pub parameter-encloses : In 83 (t g p) (parameter (linearIntervals (numbers g)) w)
     unfolding parameter parameterOf linearIntervals linearOf t along share
     parameter-encloses = equal-in same (div-encloses 21 (length-pos g apart) tt length-apart (add-encloses tt (add-encloses tt (add-encloses tt zero-encloses (share-encloses 0 (lit< tt))) (share-encloses 1 (lit< tt))) (share-encloses 2 (lit< tt))) length-encloses)

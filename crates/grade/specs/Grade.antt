@@ -27,13 +27,14 @@ ticks v = tick (at v 0) && tick (at v 1) && tick (at v 2)
 unfoldable pub inLimits : Grade → Bool
 inLimits g = leZ (pos 0) (g .kind) && leZ (g .kind) (pos 2) && ticks (g .from) && ticks (g .to) && count (g .start) && count (g .end)
 
+-- whether two whole numbers are equal
 abbrev pub eqZ : ℤ → ℤ → Bool
 eqZ a b = leZ a b && leZ b a
 
 abbrev pub isLinear : Grade → Bool
 isLinear g = eqZ (g .kind) (pos 1)
 
--- ---- "With d = to − from and L = d·d"
+-- ---- the difference of the anchors, and its square: "With d = to − from and L = d·d"
 unfoldable pub minus : List ℤ → List ℤ → List ℤ
 minus a b = (at a 0 -ℤ at b 0) ∷ (at a 1 -ℤ at b 1) ∷ (at a 2 -ℤ at b 2) ∷ []
 
@@ -54,7 +55,7 @@ Point = ℕ → Fraction
 unfoldable pub along : List ℤ → List ℤ → Point → Fraction
 along from d p = (p 0 -F whole (at from 0)) *F whole (at d 0) +F (p 1 -F whole (at from 1)) *F whole (at d 1) +F (p 2 -F whole (at from 2)) *F whole (at d 2)
 
--- "t = (p−from)·d / L"
+-- the parameter of a point, 0 at `from` and 1 at `to`: "t = (p−from)·d / L"
 unfoldable pub t : Grade → Point → Fraction
 t g p = along (g .from) (direction g) p /F natAbs (lengthSq g)
 
@@ -62,6 +63,6 @@ t g p = along (g .from) (direction g) p /F natAbs (lengthSq g)
 abbrev pub between : Grade → Fraction → Fraction
 between g x = whole (g .start) +F x *F whole (g .end -ℤ g .start)
 
--- "The level is start + t' (end−start), t' being t held to 0..1"; "(constant uses `start`)"
+-- "The level is start + t' (end−start), t' being t held to 0..1"; "(constant uses `start`)". A distance level is refused, so it has none to state
 unfoldable pub level : Grade → Point → Fraction
 level g p = cond (isLinear g) (between g (heldF (t g p) oneF)) (whole (g .start))

@@ -27,7 +27,7 @@ abbrev pub PieceIs : ℤ → ℤ → PieceAnswer → Type 0
 PieceIs a b piece = exactPiece (compiled G) (along a) (along b) ≡ piece
 
 pub record Marked : Type 0 where
-  -- "L = 104857600"
+  -- the square of the anchor distance: "L = 104857600"
   pub length : lengthSq G ≡ pos 104857600
   -- (1) to (3)
   pub one : Ranges (pos 0) (pos 5120) (negsuc 26843545599) (pos 0)

@@ -27,7 +27,7 @@ same a b = eqZ (at a 0) (at b 0) && eqZ (at a 1) (at b 1) && eqZ (at a 2) (at b 
 abbrev pub isDistance : Grade → Bool
 isDistance g = eqZ (g .kind) (pos 2)
 
--- "linear, from = to"
+-- the two anchors are one point: "linear, from = to"
 abbrev pub coincident : Grade → Bool
 coincident g = isLinear g && same (g .from) (g .to)
 

@@ -31,7 +31,7 @@ fn size(x: i64) -> i64
 fn ending(x: i64) -> bool
     ensures { λ r. ⌜ r ≡ ending x ⌝ }
 {
-    (-256 <= x) & (x <= 256)
+    (Linear::ENDS[0] <= x) & (x <= Linear::ENDS[1])
 }
 
 fn axis_of(x: bool, y: bool, z: bool) -> Axis
@@ -61,6 +61,9 @@ impl Axis {
 }
 
 impl Linear {
+    // The least and the greatest end of a certified linear level.
+    pub const ENDS: [i64; 2] = [-256, 256];
+
     pub fn axis(self) -> Axis
         ensures { λ r. ⌜ r ≡ axis self ⌝ }
     {

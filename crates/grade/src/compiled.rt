@@ -25,7 +25,7 @@ impl GradeDef {
         };
         GradeDef {
             kind: LevelKind::Constant,
-            linear: linear,
+            linear,
         }
     }
 
@@ -40,7 +40,7 @@ impl GradeDef {
             let linear = Linear::new(from, to, g.start, g.end);
             return GradeDef {
                 kind: LevelKind::Linear,
-                linear: linear,
+                linear,
             };
         }
         GradeDef::constant(g.start)

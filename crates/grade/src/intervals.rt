@@ -63,7 +63,7 @@ impl Linear {
             from: units(from),
             direction: units(direction),
             length_sq: Interval::from_rational(self.length_sq, 1048576),
-            start: start,
+            start,
             rise: unit(self.end).sub(start),
             slope: self.slopes(),
         }
@@ -78,7 +78,7 @@ impl GradeDef {
         let kind = self.kind;
         let linear = self.linear;
         GradeIntervals {
-            kind: kind,
+            kind,
             linear: linear.intervals(),
         }
     }

@@ -27,7 +27,7 @@ pub enum LevelKind {
     Linear,
 }
 
-// The linear level's numbers, with direction = to − from and length_sq = direction · direction.
+// The linear level's numbers: its direction is to − from, and length_sq that one's square.
 pub struct Linear {
     pub from: [i64; 3],
     pub direction: [i64; 3],

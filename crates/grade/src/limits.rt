@@ -7,13 +7,13 @@ use crate::Grade;
 pub fn tick(x: i64) -> bool
     ensures { λ r. ⌜ r ≡ tick x ⌝ }
 {
-    (-1048576 <= x) & (x <= 1048576)
+    (Grade::TICKS[0] <= x) & (x <= Grade::TICKS[1])
 }
 
 pub fn count(x: i64) -> bool
     ensures { λ r. ⌜ r ≡ count x ⌝ }
 {
-    (-4096 <= x) & (x <= 4096)
+    (Grade::COUNTS[0] <= x) & (x <= Grade::COUNTS[1])
 }
 
 pub fn ticks(v: [i64; 3]) -> bool
@@ -42,6 +42,11 @@ pub fn above(lo: [i64; 3], hi: [i64; 3]) -> bool
 }
 
 impl Grade {
+    // The least and the greatest of a coordinate, and of a level.
+    pub const TICKS: [i64; 2] = [-1048576, 1048576];
+
+    pub const COUNTS: [i64; 2] = [-4096, 4096];
+
     pub fn in_limits(self) -> bool
         ensures { λ r. ⌜ r ≡ inLimits self ⌝ }
     {

@@ -46,13 +46,13 @@ fn ordered(a: i64, b: i64, over: i64) -> Bounds
         return Bounds {
             low: b,
             high: a,
-            over: over,
+            over,
         };
     }
     Bounds {
         low: a,
         high: b,
-        over: over,
+        over,
     }
 }
 
@@ -63,11 +63,11 @@ impl Linear {
     {
         let d = minus(to, from);
         Linear {
-            from: from,
+            from,
             direction: d,
             length_sq: dot(d, d),
-            start: start,
-            end: end,
+            start,
+            end,
         }
     }
 

@@ -26,7 +26,7 @@ impl Grade {
         equal(self.kind, 2)
     }
 
-    // Linear, with from = to.
+    // Whether a linear level's two anchors are one point.
     pub fn coincident(self) -> bool
         ensures { λ r. ⌜ r ≡ coincident self ⌝ }
     {
