@@ -15,3 +15,5 @@ pub mod AxisLaws
 pub mod MarkedValues
 mod Sizes
 mod CornerLaws
+-- worked by computation
+mod Examples
