@@ -1,11 +1,11 @@
 -- Sizes of whole numbers: how the bounds of sums and products grow, and that a bounded number fits 64 bits. Assumes nothing.
-use Prim.Native.Nat.{ℕ, suc, _+_, _*_, _^_, _≤_}
+use Prim.Native.Nat.{ℕ, suc, _+_, _*_, _^_, _≤_, _<_}
 use native.Mathlib.Nat.{mul-le-mul, le-refl, le-trans, add-le-add}
 use native.Mathlib.Omega.{arith}
 use mathlib.Core.Path.{_≡_}
 use lib.Dec.{T, ltb, leb, leb→le, ltb→lt}
 use lib.IntN.{ℤ, pos, negsuc, negℤ, natAbs, _+ℤ_, _-ℤ_, _*ℤ_}
-use lib.Signed.{mag, _≤ℤ_}
+use lib.Signed.{mag, _≤ℤ_, _<ℤ_}
 use mir.Syntax.{w64}
 use mir.Val.{SFits}
 use Rattle.exact.specs.Within.{Within}
@@ -69,3 +69,8 @@ within-self z = record { abs = le-refl (natAbs z) }
 
 pub within-zero : (n : ℕ) → Within n (pos 0)
 within-zero n = record { abs = omega arith }
+
+-- the size of a number above 0
+pub size-above : {z : ℤ} → pos 0 <ℤ z → 0 < natAbs z
+size-above {z = pos n} h = ltb→lt 0 n (h .lt)
+size-above {z = negsuc n} h = absurd (h .lt)

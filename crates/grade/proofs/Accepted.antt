@@ -1,13 +1,13 @@
 -- What an accepted level is: its entries are within the limits, its anchors apart, and so the compiled grade keeps the sizes that the
 -- layer's functions ask. Assumes nothing.
 use mathlib.Core.Path.{_≡_, subst}
-use mathlib.Core.Bool.{Bool, true, false, cond, not, _&&_}
+use mathlib.Core.Bool.{Bool, true, false, not, _&&_}
 use mathlib.Core.List.{List, [], _∷_}
-use Prim.Native.Nat.{ℕ, suc}
-use native.Mathlib.Omega.{arith}
-use lib.Dec.{T, T-not, eqb·suc-zero, lit≤}
+use Prim.Native.Nat.{ℕ}
+use lib.Dec.{T, T-not, lit≤}
 use lib.IntN.{ℤ, pos, _+ℤ_, _-ℤ_, _*ℤ_}
 use lib.Signed.{leZ, ltZ-yes, _≤ℤ_, _<ℤ_, ≤ℤ-refl}
+use Rattle.exact.specs.Within.{Within}
 use Rattle.exact.proofs.Choice.{choose}
 use Rattle.exact.proofs.Size.{within-zero}
 use Rattle.exact.proofs.IntegerOrder.{zarith, sum-parts, square-nonnegℤ, square-pos, sub-zero}
@@ -19,23 +19,8 @@ use Rattle.grade.specs.Exact.{linearOf, numbers, constantDef, compiled}
 use Rattle.grade.specs.Refusals.{refused, _orElse_, above, same, isDistance, coincident, rangeRefusal}
 use Rattle.grade.specs.Fits.{Within3, InLimits, DefFits}
 use Rattle.grade.proofs.Entries.{both, ticks-within, Sizes, sizes}
+use Rattle.grade.proofs.RefusalLaws.{none-first, none-last, kept}
 use Rattle.grade.proofs.Sizes.{minus-within, dot-within}
-
--- ---- no refusal
-suc-not : {n : ℕ} → suc n ≡ 0 → ⊥
-suc-not e = omega arith
-
-none-first : (b : Bool) (n m : ℕ) → (refused b (suc n) orElse m) ≡ 0 → T (not b) × (m ≡ 0)
-none-first true n m e = absurd (suc-not (subst (λ (b : Bool). cond b m (suc n) ≡ 0) (eqb·suc-zero n) e))
-none-first false n m e = (tt, e)
-
-none-last : (b : Bool) (n : ℕ) → refused b (suc n) ≡ 0 → T (not b)
-none-last true n e = absurd (suc-not e)
-none-last false n e = tt
-
-kept : (b : Bool) → T (not (not b)) → T b
-kept true t = tt
-kept false t = absurd t
 
 -- what `grade_range` has tested
 pub record Accepted (g : Grade) (lo hi : List ℤ) : Type 0 where
@@ -57,7 +42,7 @@ accepted g lo hi e =
     record { limits = record { passed = i }; low = ticks-within lo l; high = ticks-within hi h; order = b; no-distance = c; apart = none-last (coincident g) 7 e3 }
 
 -- ---- anchors apart: L is above 0
-same-yes : (a b : ℤ) → a ≡ b → T (eqZ a b)
+pub same-yes : (a b : ℤ) → a ≡ b → T (eqZ a b)
 same-yes a b e = subst (λ (x : ℤ). T (eqZ a x)) e (conj (leZ a a) (≤ℤ-refl a .le))
   where
     conj : (x : Bool) → T x → T (x && x)
@@ -75,13 +60,13 @@ some true true true t P f g h = absurd t
 
 -- a sum of three that are not negative, one of them above 0
 module _ {x y z : ℤ} (p : pos 0 ≤ℤ x) (q : pos 0 ≤ℤ y) (r : pos 0 ≤ℤ z) where
-  first : pos 0 <ℤ x → pos 0 <ℤ (x +ℤ y +ℤ z)
+  pub first : pos 0 <ℤ x → pos 0 <ℤ (x +ℤ y +ℤ z)
   first h = omega (zarith, sum-parts x y, sum-parts (x +ℤ y) z)
 
-  second : pos 0 <ℤ y → pos 0 <ℤ (x +ℤ y +ℤ z)
+  pub second : pos 0 <ℤ y → pos 0 <ℤ (x +ℤ y +ℤ z)
   second h = omega (zarith, sum-parts x y, sum-parts (x +ℤ y) z)
 
-  third : pos 0 <ℤ z → pos 0 <ℤ (x +ℤ y +ℤ z)
+  pub third : pos 0 <ℤ z → pos 0 <ℤ (x +ℤ y +ℤ z)
   third h = omega (zarith, sum-parts x y, sum-parts (x +ℤ y) z)
 
 pub anchors-apart : (a b : List ℤ) → T (not (same a b)) → pos 0 <ℤ dot (minus b a) (minus b a)
@@ -112,8 +97,12 @@ by-kind g P linear flat = choose (isLinear g && not (eqZ (g .start) (g .end))) (
 zero3 : (n : ℕ) → Within3 n (pos 0 ∷ pos 0 ∷ pos 0 ∷ [])
 zero3 n = record { x = within-zero n; y = within-zero n; z = within-zero n }
 
+pub constant-fits : {c : ℤ} → Within 4096 c → DefFits (constantDef c)
+unfolding constantDef
+constant-fits h = record { linear = record { from = zero3 1048576; direction = zero3 2097152; length = record { abs = lit≤ tt }; apart = ltZ-yes tt; start = h; end = h } }
+
 pub compiled-fits : (g : Grade) → InLimits g → T (not (coincident g)) → DefFits (compiled g)
-unfolding linearOf constantDef
+unfolding linearOf
 compiled-fits g i t = by-kind g DefFits
     (λ l. record {
       linear = record {
@@ -125,7 +114,7 @@ compiled-fits g i t = by-kind g DefFits
         end = s .end;
       };
     })
-    (λ _. record { linear = record { from = zero3 1048576; direction = zero3 2097152; length = record { abs = lit≤ tt }; apart = ltZ-yes tt; start = s .start; end = s .start } })
+    (λ _. constant-fits (s .start))
   where
     s : Sizes g
     s = sizes g i

@@ -14,7 +14,7 @@ pub both : (a b : Bool) → T (a && b) → T a × T b
 both true b t = (tt, t)
 both false b t = absurd t
 
-tick-within : (z : ℤ) → T (tick z) → Within 1048576 z
+pub tick-within : (z : ℤ) → T (tick z) → Within 1048576 z
 tick-within z t =
     let (h, k) = both (leZ (negsuc 1048575) z) (leZ z (pos 1048576)) t in
     within-of-bounds 1048576 (leZ-yes h) (leZ-yes k)

@@ -20,7 +20,7 @@ use Rattle.grade.specs.Grade.{eqZ, isLinear, lengthSq, Point, t, between
 use Rattle.grade.specs.Exact.{held, linearOf, numbers, levelOver}
 use Rattle.grade.specs.Holds.{affineLevel}
 use Rattle.grade.proofs.Entries.{both}
-use Rattle.grade.proofs.Sizes.{size-above}
+use Rattle.exact.proofs.Size.{size-above}
 
 -- ---- between start and end
 pub between-cong : (g : Grade) {x y : Fraction} → x ≈F y → between g x ≈F between g y

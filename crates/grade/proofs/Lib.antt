@@ -1,5 +1,6 @@
 -- The laws of the grade layer. The layers above cite what is `pub` here; the rest serves its proofs. Assumes nothing.
 -- an accepted level, and its entries' sizes
+pub mod RefusalLaws
 pub mod Entries
 pub mod Accepted
 -- the level, the range, the piece: exact, over every rational point
@@ -11,6 +12,7 @@ pub mod IntervalLaws
 pub mod SlopeLaws
 -- certification, planes
 pub mod AxisLaws
+pub mod CertifiedLaws
 -- document 01's marked values
 pub mod MarkedValues
 mod Sizes

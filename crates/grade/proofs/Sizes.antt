@@ -2,10 +2,9 @@
 use mathlib.Core.Path.{sym, subst}
 use mathlib.Core.Bool.{cond}
 use mathlib.Core.List.{List}
-use Prim.Native.Nat.{ℕ, _+_, _*_, _<_}
-use lib.Dec.{ltb→lt}
-use lib.IntN.{ℤ, pos, negsuc, negℤ, natAbs, _-ℤ_, +ℤ-idl}
-use lib.Signed.{ltZ, _<ℤ_}
+use Prim.Native.Nat.{ℕ, _+_, _*_}
+use lib.IntN.{ℤ, pos, negℤ, _-ℤ_, +ℤ-idl}
+use lib.Signed.{ltZ}
 use Rattle.exact.specs.Within.{Within}
 use Rattle.exact.proofs.Choice.{choose}
 use Rattle.exact.proofs.Size.{within-add, within-sub, within-mul, within-neg, within-zero}
@@ -51,7 +50,3 @@ level-within g f h = within-add (within-mul (f .start) (f .length)) (within-mul 
 pub rise-within : (g : Linear) → LinearFits g → Within 8192 (rise g)
 unfolding rise
 rise-within g f = size-within (within-sub (f .end) (f .start))
-
-pub size-above : {z : ℤ} → pos 0 <ℤ z → 0 < natAbs z
-size-above {z = pos n} h = ltb→lt 0 n (h .lt)
-size-above {z = negsuc n} h = absurd (h .lt)

@@ -57,7 +57,7 @@ distance g = size (at (g .direction) 0) +ℤ size (at (g .direction) 1) +ℤ siz
 unfoldable pub rise : Linear → ℤ
 rise g = size (g .end -ℤ g .start)
 
-abbrev slopeBy : LevelKind → Linear → Slope
+abbrev pub slopeBy : LevelKind → Linear → Slope
 slopeBy LevelKind.Constant g = record { rise = pos 0; distance = pos 1 }
 slopeBy LevelKind.Linear g = record { rise = rise g; distance = distance g }
 
@@ -73,7 +73,7 @@ ending z = leZ (negsuc 255) z && leZ z (pos 256)
 unfoldable pub linearCertification : Linear → ℕ
 linearCertification g = refused (not (isOne (axis g))) 4 orElse refused (not (ending (g .start) && ending (g .end))) 5 orElse refused (ltZ (distance g) (pos 10 *ℤ rise g)) 5
 
-abbrev certificationBy : LevelKind → Linear → ℕ
+abbrev pub certificationBy : LevelKind → Linear → ℕ
 certificationBy LevelKind.Constant g = 0
 certificationBy LevelKind.Linear g = linearCertification g
 

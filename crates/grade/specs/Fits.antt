@@ -8,6 +8,7 @@ use Rattle.exact.specs.Within.{Within}
 use Rattle.grade.specs.declared.Linear.{Linear}
 use Rattle.grade.specs.declared.Grade.{Grade}
 use Rattle.grade.specs.declared.GradeDef.{GradeDef}
+use Rattle.grade.specs.declared.Slope.{Slope}
 use Rattle.grade.specs.Grade.{at, inLimits}
 
 -- a vector of entries within n
@@ -31,3 +32,9 @@ pub record LinearFits (g : Linear) : Type 0 where
 
 pub record DefFits (g : GradeDef) : Type 0 where
   pub linear : LinearFits (g .linear)
+
+-- the slope's parts, of a grade that certification has passed
+pub record SlopeFits (s : Slope) : Type 0 where
+  pub rise : Within 8192 (s .rise)
+  pub distance : Within 6291456 (s .distance)
+  pub apart : pos 0 <ℤ s .distance

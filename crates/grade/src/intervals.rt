@@ -127,7 +127,7 @@ pub fn piece_of(t: Interval) -> PieceAnswer
     chosen(t.hi <= 0.0, 1.0 <= t.lo, (0.0 <= t.lo) & (t.hi <= 1.0))
 }
 
-fn zeros() -> [Interval; 3]
+pub fn zeros() -> [Interval; 3]
     ensures { λ r. ⌜ r ≡ zeros ⌝ }
 {
     let z = Interval::point(0.0);

@@ -71,6 +71,14 @@ le-value x y f g h = go (lt x y) (eq x y) (lt-value x y f g) (eq-value x y f g) 
     go false true p q t = q tt
     go false false p q t = absurd t
 
+pub lt-le : (x y : Float) → T (lt x y) → T (le x y)
+unfolding le
+lt-le x y h = go (lt x y) (eq x y) h
+  where
+    go : (u v : Bool) → T u → T (u || v)
+    go true v t = tt
+    go false v t = absurd t
+
 -- ---- the lesser and the greater: one of the two, and a bound of both
 module _ (x y : Float) where
   pub least-one : (P : Float → Type 0) → P x → P y → P (least x y)

@@ -6,6 +6,7 @@ pub mod Quotient
 pub mod Bounds
 -- doubles as fractions: their sizes, their tests, where no rounding takes place, the floor, the series
 pub mod Small
+pub mod DoubleSizes
 pub mod Compare
 pub mod Exact
 pub mod FloorLaws

@@ -44,3 +44,10 @@ tail n = ratio (pos (4 ^ n)) (5 ^ n * factorial n) (mul-pos (one-le-pow n 5 (zer
 
 abbrev pub tailUp : ℕ → Float
 tailUp n = nextUp (nearest (tail n .num) (tail n .den))
+
+-- ---- a term as its nearest double, and the first nine: what `fast_distance` reads
+abbrev pub nearTerm : (ℕ → Fraction) → ℕ → Float
+nearTerm f i = nearest (f i .num) (f i .den)
+
+abbrev pub nineNearest : (ℕ → Fraction) → List Float
+nineNearest f = nearTerm f 0 ∷ nearTerm f 1 ∷ nearTerm f 2 ∷ nearTerm f 3 ∷ nearTerm f 4 ∷ nearTerm f 5 ∷ nearTerm f 6 ∷ nearTerm f 7 ∷ nearTerm f 8 ∷ []

@@ -1,7 +1,7 @@
-// The nine coefficients of sine and of cosine as intervals, and the doubles above their tails. Each is proved equal to its exact
+// The nine coefficients of sine and of cosine, as intervals and as doubles, and the doubles above their tails. Each is proved equal to its exact
 // fraction's by computation.
 ghost use mathlib.Core.Path.{_≡_};
-ghost use Rattle.interval.specs.Series.{sineTerm, cosineTerm, nine, tailUp};
+ghost use Rattle.interval.specs.Series.{sineTerm, cosineTerm, nine, nineNearest, tailUp};
 use crate::Interval;
 
 impl Interval {
@@ -85,6 +85,31 @@ impl Interval {
         },
     ];
 
+    // The same coefficients' nearest doubles.
+    pub const SINE_NEAREST: [f64; 9] = [
+        1.0,
+        -0.16666666666666666,
+        0.008333333333333333,
+        -0.0001984126984126984,
+        0.0000027557319223985893,
+        -0.00000002505210838544172,
+        0.00000000016059043836821613,
+        -0.0000000000007647163731819816,
+        0.0000000000000028114572543455206,
+    ];
+
+    pub const COSINE_NEAREST: [f64; 9] = [
+        1.0,
+        -0.5,
+        0.041666666666666664,
+        -0.001388888888888889,
+        0.0000248015873015873,
+        -0.0000002755731922398589,
+        0.00000000208767569878681,
+        -0.000000000011470745597729725,
+        0.00000000000004779477332387385,
+    ];
+
     // Above (4/5)^19/19! and (4/5)^18/18!.
     pub const TAIL_SINE: f64 = 0.00000000000000000011847183946702754;
 
@@ -100,6 +125,18 @@ impl Interval {
         ensures { λ r. ⌜ r ≡ nine cosineTerm ⌝ }
     {
         Self::COSINE
+    }
+
+    pub fn sine_nearest() -> [f64; 9]
+        ensures { λ r. ⌜ r ≡ nineNearest sineTerm ⌝ }
+    {
+        Self::SINE_NEAREST
+    }
+
+    pub fn cosine_nearest() -> [f64; 9]
+        ensures { λ r. ⌜ r ≡ nineNearest cosineTerm ⌝ }
+    {
+        Self::COSINE_NEAREST
     }
 
     pub fn tail_sine() -> f64

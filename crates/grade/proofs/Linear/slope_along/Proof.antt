@@ -9,7 +9,7 @@ use lib.Dec.{T, lit≤}
 use Rattle.exact.proofs.IntegerOrder.{<ℤ-le}
 use Rattle.exact.proofs.Signed.{is, fits, bit, sub, mul, asked}
 use Rattle.interval.specs.Nearest.{fromRational}
-use Rattle.grade.proofs.Sizes.{size-above}
+use Rattle.exact.proofs.Size.{size-above}
 use Rattle.grade.proofs.Linear.slope_along.Statement.{statement}
 use Rattle.grade.proofs.Linear.slope_along.Tie as tie
 

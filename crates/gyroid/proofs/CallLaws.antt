@@ -1,0 +1,97 @@
+-- What the proofs of the public calls share: the leaf behind a refusal of 0, what a call owes the functions that it calls, and an answer by
+-- its refusal. Assumes nothing.
+use mathlib.Core.Path.{_≡_, refl, sym, ap, _∙_, subst}
+use mathlib.Core.Bool.{cond, not, _&&_}
+use mathlib.Core.List.{List}
+use Prim.Native.Nat.{ℕ, _*_, _^_, _≤_, _<_}
+use native.Mathlib.Omega.{arith}
+use borrow.Author.Tests.{ne-eqb}
+use lib.Dec.{T, eqb}
+use lib.IntN.{ℤ, pos, natAbs}
+use lib.Ieee.{Float, neg, le, ofBits}
+use Rattle.exact.proofs.Size.{size-above}
+use Rattle.interval.specs.Interval.{point}
+use Rattle.interval.specs.Encloses.{Small}
+use Rattle.interval.proofs.Small.{small-between}
+use Rattle.interval.proofs.DoubleSizes.{nearest-small}
+use Rattle.grade.specs.Grade.{ticks}
+use Rattle.grade.specs.Exact.{compiled}
+use Rattle.grade.specs.Refusals.{refused, _orElse_, above}
+use Rattle.grade.specs.Fits.{Within3}
+use Rattle.grade.proofs.Entries.{both, ticks-within}
+use Rattle.grade.proofs.RefusalLaws.{none-first, none-last, kept, neither}
+use Rattle.gyroid.specs.declared.Description.{Description}
+use Rattle.gyroid.specs.declared.Compiled.{Compiled}
+use Rattle.gyroid.specs.declared.Gyroid.{Gyroid}
+use Rattle.gyroid.specs.Refusals.{refusal, between, farthest, allOrdered, allNear, boxRefusal}
+use Rattle.gyroid.specs.Leaf.{leaf, certified}
+use Rattle.gyroid.specs.Fast.{pointAt}
+use Rattle.gyroid.specs.Fits.{FastFits, Near}
+use Rattle.gyroid.specs.Calls.{pointBox, levelPieceRefusal}
+use Rattle.gyroid.proofs.AcceptedLaws.{Passed, accepted}
+
+-- ---- an answer by its refusal: n is the number that the code found, m the definition's
+pub refused-is : {A : Type 0} (f : ℕ → A) {n m : ℕ} (x : A) → n ≡ m → (n ≡ 0 → ⊥) → f n ≡ cond (eqb m 0) x (f m)
+refused-is f {n} x e h = subst (λ (k : ℕ). f n ≡ cond (eqb k 0) x (f k)) e (rw (ne-eqb n 0 h) refl)
+
+pub answer-is : {A : Type 0} {n m : ℕ} {x y : A} (z : A) → n ≡ m → n ≡ 0 → y ≡ x → y ≡ cond (eqb m 0) x z
+answer-is {x} {y} z e h p = subst (λ (k : ℕ). y ≡ cond (eqb k 0) x z) (sym h ∙ e) p
+
+-- ---- what `certified` gave
+pub number-is : (d : Description) {m : Compiled} → m ≡ certified d → m .refusal ≡ refusal d
+unfolding certified
+number-is d e = ap (λ (c : Compiled). c .refusal) e
+
+pub leaf-is : (d : Description) {m : Compiled} → m ≡ certified d → refusal d ≡ 0 → m .leaf ≡ leaf d
+unfolding certified
+leaf-is d e z = ap (λ (c : Compiled). c .leaf) e ∙ rw z refl
+
+leaf-grade : (d : Description) → leaf d .grade ≡ compiled (d .level)
+unfolding leaf
+leaf-grade d = refl
+
+pub grade-is : (d : Description) {m : Compiled} → m ≡ certified d → refusal d ≡ 0 → m .leaf .grade ≡ compiled (d .level)
+grade-is d e z = ap (λ (g : Gyroid). g .grade) (leaf-is d e z) ∙ leaf-grade d
+
+-- ---- what `level_piece` has tested
+pub record PieceAccepted (d : Description) (lo hi : List ℤ) : Type 0 where
+  pub description : refusal d ≡ 0
+  pub low : Within3 1048576 lo
+  pub high : Within3 1048576 hi
+
+pub piece-accepted : (d : Description) (lo hi : List ℤ) → levelPieceRefusal d lo hi ≡ 0 → PieceAccepted d lo hi
+unfolding levelPieceRefusal
+piece-accepted d lo hi e =
+    let (a, e) = none-first (not (ticks lo && ticks hi)) 0 (refusal d orElse refused (above lo hi) 6) e in
+    let (b, _) = neither (refusal d) (refused (above lo hi) 6) e in
+    let (l, h) = both (ticks lo) (ticks hi) (kept (ticks lo && ticks hi) a) in
+    record { description = b; low = ticks-within lo l; high = ticks-within hi h }
+
+-- ---- what `fast_distance` has tested
+turns-small : (d : Description) → Passed d → Small 10 (leaf d .«fast_turns»)
+unfolding leaf
+turns-small d p = nearest-small 10 (pos 1024) (natAbs (d .period)) tt (size-above (p .above)) (wide (natAbs (d .period)) (size-above (p .above)))
+  where
+    wide : (n : ℕ) → 0 < n → 1024 ≤ 2 ^ 10 * n
+    wide n h = omega arith
+
+pub fast-fits : (d : Description) → refusal d ≡ 0 → FastFits (leaf d)
+unfolding leaf
+fast-fits d e = let p = accepted d e .0 in record { turns = turns-small d p; grade = p .fits }
+
+near-point : (x : Float) → T (between farthest (point x)) → Small 40 x
+unfolding ofBits neg
+near-point x t =
+    let (h, _) = both (le (neg farthest) x && le x farthest && le (neg farthest) x) (le x farthest) t in
+    let (h, _) = both (le (neg farthest) x && le x farthest) (le (neg farthest) x) h in
+    let (a, b) = both (le (neg farthest) x) (le x farthest) h in
+    small-between 40 x a b
+
+pub near : (p : List Float) → boxRefusal (pointBox p) ≡ 0 → Near p
+unfolding boxRefusal allNear
+near p e =
+    let (_, f) = none-first (not (allOrdered (pointBox p))) 8 (refused (not (allNear (pointBox p))) 10) e in
+    let t = kept (allNear (pointBox p)) (none-last (not (allNear (pointBox p))) 9 f) in
+    let (h, z) = both (between farthest (point (pointAt p 0)) && between farthest (point (pointAt p 1))) (between farthest (point (pointAt p 2))) t in
+    let (x, y) = both (between farthest (point (pointAt p 0))) (between farthest (point (pointAt p 1))) h in
+    record { x = near-point (pointAt p 0) x; y = near-point (pointAt p 1) y; z = near-point (pointAt p 2) z }

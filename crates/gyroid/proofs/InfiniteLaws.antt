@@ -1,0 +1,50 @@
+-- An infinite end passes the refusals of `residual`, `affine_residual` and `box_state`, and there they are "none, none, unsettled". Assumes
+-- nothing.
+use mathlib.Core.Path.{_≡_, refl, ap}
+use mathlib.Core.Bool.{Bool, true, false, cond, not}
+use mathlib.Core.List.{List}
+use lib.Dec.{T}
+use Rattle.interval.specs.declared.Interval.{Interval}
+use Rattle.grade.specs.declared.LevelKind.{LevelKind}
+use Rattle.grade.specs.declared.PieceAnswer.{PieceAnswer}
+use Rattle.grade.specs.Intervals.{zero, zeros, interval, affine, gradient, pieceGradient, piece}
+use Rattle.gyroid.specs.declared.Gyroid.{Gyroid}
+use Rattle.gyroid.specs.declared.Residual.{Residual}
+use Rattle.gyroid.specs.declared.Residual.the-variants.{None}
+use Rattle.gyroid.specs.declared.State.the-variants.{Unsettled}
+use Rattle.gyroid.specs.Refusals.{allFinite}
+use Rattle.gyroid.specs.Jet.{jet}
+use Rattle.gyroid.specs.Residual.{centre, radii, expanded, expansion, levelAt, lessLevel, residualOn, residualBy, residual, affineBy, affineResidual, stateOf, boxState}
+
+module _ (g : Gyroid) (w : List Interval) (t : T (not (allFinite w))) where
+  expansion-none : (level : Interval) (slope : List Interval) → expansion g w level slope ≡ None
+  unfolding expansion
+  expansion-none level slope = go (not (allFinite w)) t
+    where
+      go : (b : Bool) → T b → cond b None (expanded (g .«wave_squared») (jet g (centre w)) level slope (radii w)) ≡ None
+      go true u = refl
+      go false u = absurd u
+
+  on-none : (a : PieceAnswer) → residualOn a g w ≡ None
+  on-none (PieceAnswer.Found p) = expansion-none (levelAt (g .intervals) p (centre w)) (pieceGradient (g .intervals) p)
+  on-none PieceAnswer.None = ap (λ (r : Residual). lessLevel r (interval (g .intervals) w)) (expansion-none zero zeros)
+
+  pub residual-none : residual g w ≡ None
+  unfolding residual
+  residual-none = go (g .intervals .kind)
+    where
+      go : (k : LevelKind) → residualBy k g w ≡ None
+      go LevelKind.Constant = expansion-none (g .«interval_level») zeros
+      go LevelKind.Linear = on-none (piece (g .intervals) w)
+
+  pub affine-residual-none : affineResidual g w ≡ None
+  unfolding affineResidual
+  affine-residual-none = go (g .intervals .kind)
+    where
+      go : (k : LevelKind) → affineBy k g w ≡ None
+      go LevelKind.Constant = expansion-none (g .«interval_level») zeros
+      go LevelKind.Linear = expansion-none (affine (g .intervals) (centre w)) (gradient (g .intervals))
+
+  pub box-state-unsettled : boxState g w ≡ Unsettled
+  unfolding boxState
+  box-state-unsettled = ap stateOf residual-none

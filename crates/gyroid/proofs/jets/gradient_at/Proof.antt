@@ -1,0 +1,12 @@
+-- By the definition, from the calls. Assumes nothing.
+use Rattle.gyroid.specs.Jet.{gradientAt}
+use Rattle.gyroid.proofs.jets.gradient_at.Statement.{statement}
+use Rattle.gyroid.proofs.jets.gradient_at.Tie as tie
+
+returns : tie.Need-returns
+unfolding gradientAt
+returns c = rw (c .crossed3 .ensures, c .before .crossed2 .ensures, c .before .before .crossed .ensures)
+
+pub gradient-at-spec : {M : Type 1} → statement M
+gradient-at-spec =
+    tie.close (tie.spec (λ _ _. tt) (λ _ _. tt) (λ _ _. tt) returns)

@@ -1,0 +1,189 @@
+-- The public calls: document 01's number and values for each case of an answer, and what each call says of any input. Definitions only;
+-- assumes nothing.
+use mathlib.Core.Bool.{Bool, true, false, cond, not, _&&_}
+use mathlib.Core.List.{List, [], _∷_}
+use Prim.Native.Nat.{ℕ}
+use lib.Dec.{eqb}
+use lib.IntN.{ℤ, pos, negsuc}
+use lib.Signed.{leZ}
+use lib.Ieee.{Float}
+use Rattle.interval.specs.declared.Interval.{Interval}
+use Rattle.interval.specs.Interval.{point}
+use Rattle.grade.specs.declared.LevelKind.{LevelKind}
+use Rattle.grade.specs.declared.Piece.{Piece}
+use Rattle.grade.specs.declared.Piece.the-variants.{Start, Ramp, End}
+use Rattle.grade.specs.declared.PieceAnswer.{PieceAnswer}
+use Rattle.grade.specs.declared.Planes.{Planes}
+use Rattle.grade.specs.Grade.{ticks}
+use Rattle.grade.specs.Exact.{compiled, exactPiece}
+use Rattle.grade.specs.Certified.{planes}
+use Rattle.grade.specs.Fast.{fast}
+use Rattle.grade.specs.Refusals.{refused, _orElse_, above}
+use Rattle.gyroid.specs.declared.Description.{Description}
+use Rattle.gyroid.specs.declared.Jet.{Jet}
+use Rattle.gyroid.specs.declared.Derivatives.{Derivatives}
+use Rattle.gyroid.specs.declared.Residual.{Residual}
+use Rattle.gyroid.specs.declared.Residual.the-variants.{Enclosure, None}
+use Rattle.gyroid.specs.declared.State.{State}
+use Rattle.gyroid.specs.declared.State.the-variants.{Inside, Outside, Unsettled}
+use Rattle.gyroid.specs.declared.EnclosureAnswer.{EnclosureAnswer}
+use Rattle.gyroid.specs.declared.StateAnswer.{StateAnswer}
+use Rattle.gyroid.specs.declared.LevelPieceAnswer.{LevelPieceAnswer}
+use Rattle.gyroid.specs.declared.TruthAnswer.{TruthAnswer}
+use Rattle.gyroid.specs.declared.PlanesAnswer.{PlanesAnswer}
+use Rattle.gyroid.specs.declared.DoubleAnswer.{DoubleAnswer}
+use Rattle.gyroid.specs.Refusals.{refusal, boxRefusal, finiteBoxRefusal, triangleRefusal}
+use Rattle.gyroid.specs.Leaf.{leaf}
+use Rattle.gyroid.specs.Jet.{noJet, jet, affineJet}
+use Rattle.gyroid.specs.Residual.{residual, affineResidual, boxState}
+use Rattle.gyroid.specs.Facet.{curvature, facetResidual}
+use Rattle.gyroid.specs.Derivatives.{noDerivatives, derivatives}
+use Rattle.gyroid.specs.Fast.{pointAt, fastDistance}
+
+-- ---- what an answer says: the refusal's number, 0 for none, and its values, none where nothing is found
+pub record Said (A : Type 0) : Type 0 where
+  pub number : ℕ
+  pub values : List A
+
+abbrev pub found : {A : Type 0} → List A → Said A
+found v = record { number = 0; values = v }
+
+-- "A refusal returns its number only."
+abbrev pub refusing : {A : Type 0} → ℕ → Said A
+refusing n = record { number = n; values = [] }
+
+-- a call that the number n refuses, and that says v where n is 0
+abbrev pub answered : {A : Type 0} → ℕ → List A → Said A
+answered n v = cond (eqb n 0) (found v) (refusing n)
+
+-- ---- the number and the values of each case
+abbrev pub enclosureSaid : EnclosureAnswer → Said Float
+enclosureSaid (EnclosureAnswer.Refused n) = refusing n
+enclosureSaid (EnclosureAnswer.Found lo hi) = found (lo ∷ hi ∷ [])
+enclosureSaid EnclosureAnswer.None = found []
+
+-- the table's numbers: "1 inside, 2 outside, 3 unsettled"
+abbrev pub stateNumber : State → ℕ
+stateNumber Inside = 1
+stateNumber Outside = 2
+stateNumber Unsettled = 3
+
+abbrev pub stateSaid : StateAnswer → Said ℕ
+stateSaid (StateAnswer.Refused n) = refusing n
+stateSaid (StateAnswer.Found s) = found (stateNumber s ∷ [])
+
+-- Start 0, Ramp 1, End 2, the original's order
+abbrev pub pieceNumber : Piece → ℕ
+pieceNumber Start = 0
+pieceNumber Ramp = 1
+pieceNumber End = 2
+
+abbrev pub levelPieceSaid : LevelPieceAnswer → Said ℕ
+levelPieceSaid (LevelPieceAnswer.Refused n) = refusing n
+levelPieceSaid (LevelPieceAnswer.Found p) = found (pieceNumber p ∷ [])
+levelPieceSaid LevelPieceAnswer.None = found []
+
+abbrev pub truthSaid : TruthAnswer → Said Bool
+truthSaid (TruthAnswer.Refused n) = refusing n
+truthSaid (TruthAnswer.Found b) = found (b ∷ [])
+truthSaid TruthAnswer.None = found []
+
+-- "the axis, then the positions of `from` and `to` in ticks, or none"
+abbrev pub planesSaid : PlanesAnswer → Said ℤ
+planesSaid (PlanesAnswer.Refused n) = refusing n
+planesSaid (PlanesAnswer.Found axis from to) = found (pos axis ∷ from ∷ to ∷ [])
+planesSaid PlanesAnswer.None = found []
+
+abbrev pub doubleSaid : DoubleAnswer → Said Float
+doubleSaid (DoubleAnswer.Refused n) = refusing n
+doubleSaid (DoubleAnswer.Found x) = found (x ∷ [])
+
+-- ---- the values of what the layer answers
+abbrev pub ends : Interval → List Float
+ends i = i .lo ∷ i .hi ∷ []
+
+abbrev pub residualValues : Residual → List Float
+residualValues (Enclosure lo hi) = lo ∷ hi ∷ []
+residualValues None = []
+
+abbrev pub pieceValues : PieceAnswer → List ℕ
+pieceValues (PieceAnswer.Found p) = pieceNumber p ∷ []
+pieceValues PieceAnswer.None = []
+
+abbrev pub planesValues : Planes → List ℤ
+planesValues (Planes.Found axis from to) = pos axis ∷ from ∷ to ∷ []
+planesValues Planes.None = []
+
+-- ---- the calls on a description alone
+abbrev pub isGraded : LevelKind → Bool
+isGraded LevelKind.Constant = false
+isGraded LevelKind.Linear = true
+
+unfoldable pub gradedCall : Description → Said Bool
+gradedCall d = answered (refusal d) (isGraded (compiled (d .level) .kind) ∷ [])
+
+-- "true from 3/2, false to −3/2, else nothing", in level counts; a ramp gives nothing
+abbrev pub saturatedAt : ℤ → List Bool
+saturatedAt c = cond (leZ (pos 1536) c) (true ∷ []) (cond (leZ c (negsuc 1535)) (false ∷ []) [])
+
+abbrev pub saturatedBy : LevelKind → ℤ → List Bool
+saturatedBy LevelKind.Constant c = saturatedAt c
+saturatedBy LevelKind.Linear c = []
+
+unfoldable pub saturatedCall : Description → Said Bool
+saturatedCall d = answered (refusal d) (saturatedBy (compiled (d .level) .kind) (compiled (d .level) .linear .start))
+
+unfoldable pub planesCall : Description → Said ℤ
+planesCall d = answered (refusal d) (planesValues (planes (compiled (d .level))))
+
+unfoldable pub curvatureCall : Description → Said Float
+curvatureCall d = answered (refusal d) (ends (curvature (leaf d)))
+
+unfoldable pub lipschitzCall : Description → Said Float
+lipschitzCall d = answered (refusal d) (ends (leaf d .lipschitz))
+
+-- ---- over a box of whole ticks: "description and whole-number box" is one row, and 6 comes "after the description"
+unfoldable pub levelPieceRefusal : Description → List ℤ → List ℤ → ℕ
+levelPieceRefusal d lo hi = refused (not (ticks lo && ticks hi)) 1 orElse refusal d orElse refused (above lo hi) 6
+
+unfoldable pub levelPieceCall : Description → List ℤ → List ℤ → Said ℕ
+levelPieceCall d lo hi = answered (levelPieceRefusal d lo hi) (pieceValues (exactPiece (compiled (d .level)) lo hi))
+
+-- ---- over a box of doubles
+unfoldable pub jetCall : Description → List Interval → Jet
+jetCall d p =
+    let n = refusal d orElse boxRefusal p in
+    cond (eqb n 0) (jet (leaf d) p) (noJet n)
+
+unfoldable pub affineJetCall : Description → List Interval → Jet
+affineJetCall d p =
+    let n = refusal d orElse boxRefusal p in
+    cond (eqb n 0) (affineJet (leaf d) p) (noJet n)
+
+unfoldable pub derivativesCall : Description → List Interval → Piece → Derivatives
+derivativesCall d w piece =
+    let n = refusal d orElse boxRefusal w in
+    cond (eqb n 0) (derivatives (leaf d) w piece) (noDerivatives n)
+
+-- an infinite end passes the refusals here, and the expansion is none there
+unfoldable pub residualCall : Description → List Interval → Said Float
+residualCall d w = answered (refusal d orElse finiteBoxRefusal w) (residualValues (residual (leaf d) w))
+
+unfoldable pub affineResidualCall : Description → List Interval → Said Float
+affineResidualCall d w = answered (refusal d orElse finiteBoxRefusal w) (residualValues (affineResidual (leaf d) w))
+
+unfoldable pub boxStateCall : Description → List Interval → Said ℕ
+boxStateCall d w = answered (refusal d orElse finiteBoxRefusal w) (stateNumber (boxState (leaf d) w) ∷ [])
+
+unfoldable pub facetResidualCall : Description → List (List Interval) → Said Float
+facetResidualCall d c = answered (refusal d orElse triangleRefusal c) (residualValues (facetResidual (leaf d) c))
+
+-- ---- at a point in doubles, which is refused as the box of its points
+abbrev pub pointBox : List Float → List Interval
+pointBox p = point (pointAt p 0) ∷ point (pointAt p 1) ∷ point (pointAt p 2) ∷ []
+
+unfoldable pub fastCall : Description → List Float → Said Float
+fastCall d p = answered (refusal d orElse boxRefusal (pointBox p)) (fast (compiled (d .level)) p ∷ [])
+
+unfoldable pub fastDistanceCall : Description → List Float → Said Float
+fastDistanceCall d p = answered (refusal d orElse boxRefusal (pointBox p)) (fastDistance (leaf d) p ∷ [])

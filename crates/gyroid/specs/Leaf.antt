@@ -1,0 +1,97 @@
+-- The leaf that an accepted description compiles to. Lengths are in millimetres, levels plain. Definitions only; assumes nothing.
+use mathlib.Core.List.{List, [], _∷_}
+use mathlib.Core.Bool.{cond}
+use lib.Dec.{eqb}
+use lib.IntN.{ℤ, pos, natAbs, _+ℤ_, _*ℤ_}
+use Rattle.interval.specs.declared.Interval.{Interval}
+use Rattle.interval.specs.Step.{b64}
+use Rattle.interval.specs.Interval.{twoPi, product, square}
+use Rattle.interval.specs.Nearest.{nearest, fromRational}
+use Rattle.interval.specs.Series.{sineTerm, cosineTerm, nine, tailUp}
+use Rattle.grade.specs.declared.Linear.{Linear}
+use Rattle.grade.specs.declared.LevelKind.{LevelKind}
+use Rattle.grade.specs.declared.GradeDef.{GradeDef}
+use Rattle.grade.specs.declared.Slope.{Slope}
+use Rattle.grade.specs.Exact.{constantDef, compiled}
+use Rattle.grade.specs.Certified.{slopeBound}
+use Rattle.grade.specs.Intervals.{zero, unit, gradeIntervals}
+use Rattle.grade.specs.Fast.{near}
+use Rattle.gyroid.specs.declared.Description.{Description}
+use Rattle.gyroid.specs.declared.Gyroid.{Gyroid}
+use Rattle.gyroid.specs.declared.Compiled.{Compiled}
+use Rattle.gyroid.specs.Refusals.{refusal, unsupported}
+
+-- the level of a constant; a ramp has 0 here, which nothing reads
+abbrev pub levelBy : LevelKind → Linear → ℤ
+levelBy LevelKind.Constant g = g .start
+levelBy LevelKind.Linear g = pos 0
+
+abbrev pub constantLevel : GradeDef → ℤ
+constantLevel g = levelBy (g .kind) (g .linear)
+
+-- an upper bound of the gradient's size: 22/a and the slope, over one denominator. A period of p ticks is p/1024 mm
+abbrev pub lipschitzTop : ℤ → Slope → ℤ
+lipschitzTop p s = pos 22528 *ℤ s .distance +ℤ s .rise *ℤ p
+
+abbrev pub lipschitzBottom : ℤ → Slope → ℤ
+lipschitzBottom p s = p *ℤ s .distance
+
+-- 1/a
+abbrev pub turns : Description → Interval
+turns d = fromRational (pos 1024) (natAbs (d .period))
+
+-- the multiple of 2π that a turn is: "`wave` is `two_pi` times `turns`."
+abbrev pub wave : Description → Interval
+wave d = product twoPi (turns d)
+
+abbrev pub slope : Description → Slope
+slope d = slopeBound (compiled (d .level))
+
+unfoldable pub leaf : Description → Gyroid
+leaf d = record {
+  turns = turns d;
+  «two_pi» = twoPi;
+  wave = wave d;
+  «wave_squared» = square (wave d);
+  «interval_level» = unit (constantLevel (compiled (d .level)));
+  sine = nine sineTerm;
+  cosine = nine cosineTerm;
+  «tail_sine» = tailUp 19;
+  «tail_cosine» = tailUp 18;
+  lipschitz = fromRational (lipschitzTop (d .period) (slope d)) (natAbs (lipschitzBottom (d .period) (slope d)));
+  «fast_turns» = nearest (pos 1024) (natAbs (d .period));
+  «fast_level» = near (constantLevel (compiled (d .level)));
+  «fast_lipschitz» = nearest (lipschitzTop (d .period) (slope d)) (natAbs (lipschitzBottom (d .period) (slope d)));
+  grade = compiled (d .level);
+  intervals = gradeIntervals (compiled (d .level));
+}
+
+-- ---- the constructors. Of a refused description the leaf is all zero, its grade the constant 0
+abbrev zeros9 : List Interval
+zeros9 = zero ∷ zero ∷ zero ∷ zero ∷ zero ∷ zero ∷ zero ∷ zero ∷ zero ∷ []
+
+unfoldable pub noLeaf : Gyroid
+noLeaf = record {
+  turns = zero;
+  «two_pi» = zero;
+  wave = zero;
+  «wave_squared» = zero;
+  «interval_level» = zero;
+  sine = zeros9;
+  cosine = zeros9;
+  «tail_sine» = b64 0;
+  «tail_cosine» = b64 0;
+  lipschitz = zero;
+  «fast_turns» = b64 0;
+  «fast_level» = b64 0;
+  «fast_lipschitz» = b64 0;
+  grade = constantDef (pos 0);
+  intervals = gradeIntervals (constantDef (pos 0));
+}
+
+-- "`Gyroid::certified` is the reference"
+unfoldable pub certified : Description → Compiled
+certified d = record { refusal = refusal d; leaf = cond (eqb (refusal d) 0) (leaf d) noLeaf }
+
+unfoldable pub new : Description → Compiled
+new d = record { refusal = unsupported (certified d .refusal); leaf = certified d .leaf }

@@ -1,0 +1,18 @@
+-- The gyroid layer's definitions, in the order of document 01. Assumes nothing.
+-- the description, its refusals, and the leaf that it compiles to
+pub mod Description
+pub mod Refusals
+pub mod Leaf
+-- "Jet and residual"
+pub mod Turn
+pub mod Jet
+pub mod Residual
+-- "Beside the walk"
+pub mod Facet
+pub mod Derivatives
+pub mod Fast
+-- the public calls, and document 01's marked values
+pub mod Calls
+pub mod Marked
+-- what the layer's functions ask of their arguments
+pub mod Fits

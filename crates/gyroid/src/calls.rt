@@ -1,0 +1,277 @@
+// The public calls: each takes a description, refuses by document 01's numbers and answers any input. Each compiles its description; none
+// keeps anything.
+ghost use mathlib.Core.Path.{_≡_};
+ghost use Rattle.gyroid.specs.Calls.{found, enclosureSaid, stateSaid, levelPieceSaid, truthSaid, planesSaid, doubleSaid, ends, residualValues, pieceValues, planesValues, saturatedBy, gradedCall, saturatedCall, planesCall, curvatureCall, lipschitzCall, levelPieceCall, jetCall, affineJetCall, derivativesCall, residualCall, affineResidualCall, boxStateCall, facetResidualCall, fastCall, fastDistanceCall};
+use crate::Derivatives;
+use crate::Description;
+use crate::DoubleAnswer;
+use crate::EnclosureAnswer;
+use crate::Gyroid;
+use crate::Jet;
+use crate::LevelPieceAnswer;
+use crate::PlanesAnswer;
+use crate::Residual;
+use crate::StateAnswer;
+use crate::TruthAnswer;
+use crate::floats::box_refusal;
+use crate::floats::finite_box_refusal;
+use crate::floats::point_box;
+use crate::floats::triangle_refusal;
+use grade::LevelKind;
+use grade::Piece;
+use grade::PieceAnswer;
+use grade::Planes;
+use grade::limits::above;
+use grade::limits::ticks;
+use grade::refusals::or_else;
+use grade::refusals::refused;
+use interval::Interval;
+
+fn enclosure(v: Interval) -> EnclosureAnswer
+    ensures { λ r. ⌜ enclosureSaid r ≡ found (ends v) ⌝ }
+{
+    EnclosureAnswer::Found { lo: v.lo, hi: v.hi }
+}
+
+impl Residual {
+    fn answer(self) -> EnclosureAnswer
+        ensures { λ r. ⌜ enclosureSaid r ≡ found (residualValues self) ⌝ }
+    {
+        match self {
+            Residual::Enclosure { lo, hi } => EnclosureAnswer::Found { lo, hi },
+            Residual::None => EnclosureAnswer::None,
+        }
+    }
+}
+
+fn piece_answer(p: PieceAnswer) -> LevelPieceAnswer
+    ensures { λ r. ⌜ levelPieceSaid r ≡ found (pieceValues p) ⌝ }
+{
+    match p {
+        PieceAnswer::Found(piece) => LevelPieceAnswer::Found(piece),
+        PieceAnswer::None => LevelPieceAnswer::None,
+    }
+}
+
+fn planes_answer(p: Planes) -> PlanesAnswer
+    ensures { λ r. ⌜ planesSaid r ≡ found (planesValues p) ⌝ }
+{
+    match p {
+        Planes::Found { axis, from, to } => PlanesAnswer::Found { axis, from, to },
+        Planes::None => PlanesAnswer::None,
+    }
+}
+
+// Of a level in level counts.
+fn saturation(kind: LevelKind, level: i64) -> TruthAnswer
+    ensures { λ r. ⌜ truthSaid r ≡ found (saturatedBy kind level) ⌝ }
+{
+    match kind {
+        LevelKind::Constant => {
+            if 1536 <= level {
+                return TruthAnswer::Found(true);
+            }
+            if level <= -1536 {
+                return TruthAnswer::Found(false);
+            }
+            TruthAnswer::None
+        }
+        LevelKind::Linear => TruthAnswer::None,
+    }
+}
+
+// Whether the level is a ramp.
+pub fn graded(description: Description) -> TruthAnswer
+    ensures { λ r. ⌜ truthSaid r ≡ gradedCall description ⌝ }
+{
+    let made = Gyroid::certified(description);
+    if made.refusal != 0 {
+        return TruthAnswer::Refused(made.refusal);
+    }
+    let leaf = made.leaf;
+    let grade = leaf.grade;
+    let kind = grade.kind;
+    match kind {
+        LevelKind::Constant => TruthAnswer::Found(false),
+        LevelKind::Linear => TruthAnswer::Found(true),
+    }
+}
+
+// Whether every point is in the network, or none, whatever the position.
+pub fn saturated(description: Description) -> TruthAnswer
+    ensures { λ r. ⌜ truthSaid r ≡ saturatedCall description ⌝ }
+{
+    let made = Gyroid::certified(description);
+    if made.refusal != 0 {
+        return TruthAnswer::Refused(made.refusal);
+    }
+    let leaf = made.leaf;
+    let grade = leaf.grade;
+    let linear = grade.linear;
+    let kind = grade.kind;
+    saturation(kind, linear.start)
+}
+
+// The anchor planes of a ramp.
+pub fn planes(description: Description) -> PlanesAnswer
+    ensures { λ r. ⌜ planesSaid r ≡ planesCall description ⌝ }
+{
+    let made = Gyroid::certified(description);
+    if made.refusal != 0 {
+        return PlanesAnswer::Refused(made.refusal);
+    }
+    let leaf = made.leaf;
+    let grade = leaf.grade;
+    planes_answer(grade.planes())
+}
+
+pub fn curvature(description: Description) -> EnclosureAnswer
+    ensures { λ r. ⌜ enclosureSaid r ≡ curvatureCall description ⌝ }
+{
+    let made = Gyroid::certified(description);
+    if made.refusal != 0 {
+        return EnclosureAnswer::Refused(made.refusal);
+    }
+    let leaf = made.leaf;
+    enclosure(leaf.curvature())
+}
+
+// An upper bound of the gradient of g − c.
+pub fn lipschitz(description: Description) -> EnclosureAnswer
+    ensures { λ r. ⌜ enclosureSaid r ≡ lipschitzCall description ⌝ }
+{
+    let made = Gyroid::certified(description);
+    if made.refusal != 0 {
+        return EnclosureAnswer::Refused(made.refusal);
+    }
+    let leaf = made.leaf;
+    enclosure(leaf.lipschitz)
+}
+
+// The exact piece of the level over a box of whole ticks.
+pub fn level_piece(description: Description, lo: [i64; 3], hi: [i64; 3]) -> LevelPieceAnswer
+    ensures { λ r. ⌜ levelPieceSaid r ≡ levelPieceCall description lo hi ⌝ }
+{
+    let made = Gyroid::certified(description);
+    let limits = refused(!(ticks(lo) & ticks(hi)), 1);
+    let order = refused(above(lo, hi), 6);
+    let number = or_else(limits, or_else(made.refusal, order));
+    if number != 0 {
+        return LevelPieceAnswer::Refused(number);
+    }
+    let leaf = made.leaf;
+    let grade = leaf.grade;
+    piece_answer(grade.exact_piece(lo, hi))
+}
+
+pub fn jet(description: Description, p: [Interval; 3]) -> Jet
+    ensures { λ r. ⌜ r ≡ jetCall description p ⌝ }
+{
+    let made = Gyroid::certified(description);
+    let number = or_else(made.refusal, box_refusal(p));
+    if number != 0 {
+        return Jet::none(number);
+    }
+    let leaf = made.leaf;
+    leaf.jet(p)
+}
+
+pub fn affine_jet(description: Description, p: [Interval; 3]) -> Jet
+    ensures { λ r. ⌜ r ≡ affineJetCall description p ⌝ }
+{
+    let made = Gyroid::certified(description);
+    let number = or_else(made.refusal, box_refusal(p));
+    if number != 0 {
+        return Jet::none(number);
+    }
+    let leaf = made.leaf;
+    leaf.affine_jet(p)
+}
+
+// The gradient of g − c and the Hessian of g over a box on which the level is the given piece.
+pub fn derivatives(description: Description, world: [Interval; 3], piece: Piece) -> Derivatives
+    ensures { λ r. ⌜ r ≡ derivativesCall description world piece ⌝ }
+{
+    let made = Gyroid::certified(description);
+    let number = or_else(made.refusal, box_refusal(world));
+    if number != 0 {
+        return Derivatives::none(number);
+    }
+    let leaf = made.leaf;
+    leaf.derivatives(world, piece)
+}
+
+pub fn residual(description: Description, world: [Interval; 3]) -> EnclosureAnswer
+    ensures { λ r. ⌜ enclosureSaid r ≡ residualCall description world ⌝ }
+{
+    let made = Gyroid::certified(description);
+    let number = or_else(made.refusal, finite_box_refusal(world));
+    if number != 0 {
+        return EnclosureAnswer::Refused(number);
+    }
+    let leaf = made.leaf;
+    leaf.residual(world).answer()
+}
+
+pub fn affine_residual(description: Description, world: [Interval; 3]) -> EnclosureAnswer
+    ensures { λ r. ⌜ enclosureSaid r ≡ affineResidualCall description world ⌝ }
+{
+    let made = Gyroid::certified(description);
+    let number = or_else(made.refusal, finite_box_refusal(world));
+    if number != 0 {
+        return EnclosureAnswer::Refused(number);
+    }
+    let leaf = made.leaf;
+    leaf.affine_residual(world).answer()
+}
+
+pub fn box_state(description: Description, world: [Interval; 3]) -> StateAnswer
+    ensures { λ r. ⌜ stateSaid r ≡ boxStateCall description world ⌝ }
+{
+    let made = Gyroid::certified(description);
+    let number = or_else(made.refusal, finite_box_refusal(world));
+    if number != 0 {
+        return StateAnswer::Refused(number);
+    }
+    let leaf = made.leaf;
+    StateAnswer::Found(leaf.box_state(world))
+}
+
+// Over a triangle, by its three corners.
+pub fn facet_residual(description: Description, corners: [[Interval; 3]; 3]) -> EnclosureAnswer
+    ensures { λ r. ⌜ enclosureSaid r ≡ facetResidualCall description corners ⌝ }
+{
+    let made = Gyroid::certified(description);
+    let number = or_else(made.refusal, triangle_refusal(corners));
+    if number != 0 {
+        return EnclosureAnswer::Refused(number);
+    }
+    let leaf = made.leaf;
+    leaf.facet_residual(corners).answer()
+}
+
+// The level at a point.
+pub fn fast(description: Description, p: [f64; 3]) -> DoubleAnswer
+    ensures { λ r. ⌜ doubleSaid r ≡ fastCall description p ⌝ }
+{
+    let made = Gyroid::certified(description);
+    let number = or_else(made.refusal, box_refusal(point_box(p)));
+    if number != 0 {
+        return DoubleAnswer::Refused(number);
+    }
+    let leaf = made.leaf;
+    let grade = leaf.grade;
+    DoubleAnswer::Found(grade.fast(p))
+}
+
+pub fn fast_distance(description: Description, p: [f64; 3]) -> DoubleAnswer
+    ensures { λ r. ⌜ doubleSaid r ≡ fastDistanceCall description p ⌝ }
+{
+    let made = Gyroid::certified(description);
+    let number = or_else(made.refusal, box_refusal(point_box(p)));
+    if number != 0 {
+        return DoubleAnswer::Refused(number);
+    }
+    let leaf = made.leaf;
+    DoubleAnswer::Found(leaf.fast_distance(p))
+}

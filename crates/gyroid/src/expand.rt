@@ -1,0 +1,123 @@
+// `expansion`: the residual over a box, to second order about its centre.
+ghost use mathlib.Core.Path.{_≡_};
+ghost use Rattle.interval.specs.Interval.{greatest};
+ghost use Rattle.gyroid.specs.Residual.{centre, radius, radii, reach, spread, curvedOf, curved, bound, held, expanded, expansion};
+use crate::Gyroid;
+use crate::Jet;
+use crate::Residual;
+use crate::floats::all_finite;
+use crate::jets::minus;
+use crate::turns::symmetric;
+use interval::Interval;
+
+pub fn centre(w: [Interval; 3]) -> [Interval; 3]
+    ensures { λ r. ⌜ r ≡ centre w ⌝ }
+{
+    let x = Interval::point(w[0].mid());
+    let y = Interval::point(w[1].mid());
+    let z = Interval::point(w[2].mid());
+    [x, y, z]
+}
+
+pub fn larger(a: f64, b: f64) -> f64
+    ensures { λ r. ⌜ r ≡ greatest a b ⌝ }
+{
+    if a < b { b } else { a }
+}
+
+// The half-width of an interval.
+fn radius(b: Interval) -> f64
+    ensures { λ r. ⌜ r ≡ radius b ⌝ }
+{
+    let m = Interval::point(b.mid());
+    let above = Interval::point(b.hi).sub(m);
+    let below = m.sub(Interval::point(b.lo));
+    larger(above.hi, below.hi)
+}
+
+pub fn radii(w: [Interval; 3]) -> [Interval; 3]
+    ensures { λ r. ⌜ r ≡ radii w ⌝ }
+{
+    let x = Interval::point(radius(w[0]));
+    let y = Interval::point(radius(w[1]));
+    let z = Interval::point(radius(w[2]));
+    [x, y, z]
+}
+
+fn reach(d: Interval, r: Interval) -> Interval
+    ensures { λ s. ⌜ s ≡ reach d r ⌝ }
+{
+    Interval::point(d.magnitude()).mul(r)
+}
+
+// How far the first-order term reaches, for a gradient d and half-widths r.
+fn spread(d: [Interval; 3], r: [Interval; 3]) -> Interval
+    ensures { λ s. ⌜ s ≡ spread d r ⌝ }
+{
+    let x = reach(d[0], r[0]);
+    let y = reach(d[1], r[1]);
+    let z = reach(d[2], r[2]);
+    Interval::point(0.0).add(x).add(y).add(z)
+}
+
+fn curved_of(x: Interval, y: Interval, z: Interval) -> Interval
+    ensures { λ r. ⌜ r ≡ curvedOf x y z ⌝ }
+{
+    x.square()
+        .add(y.square())
+        .add(z.square())
+        .add(x.mul(y))
+        .add(y.mul(z))
+        .add(z.mul(x))
+}
+
+// The half-widths' part of the quadratic term of Taylor's theorem.
+fn curved(r: [Interval; 3]) -> Interval
+    ensures { λ s. ⌜ s ≡ curved r ⌝ }
+{
+    curved_of(r[0], r[1], r[2])
+}
+
+fn bound(k2: Interval, d: [Interval; 3], r: [Interval; 3]) -> f64
+    ensures { λ s. ⌜ s ≡ bound k2 d r ⌝ }
+{
+    let first = spread(d, r);
+    first.add(k2.mul(curved(r))).hi
+}
+
+pub fn held(v: Interval) -> Residual
+    ensures { λ r. ⌜ r ≡ held v ⌝ }
+{
+    Residual::Enclosure { lo: v.lo, hi: v.hi }
+}
+
+fn expanded(
+    k2: Interval,
+    jet: Jet,
+    level: Interval,
+    slope: [Interval; 3],
+    r: [Interval; 3],
+) -> Residual
+    ensures { λ s. ⌜ s ≡ expanded k2 jet level slope r ⌝ }
+{
+    if !jet.found {
+        return Residual::None;
+    }
+    let gradient = jet.gradient;
+    let reach = bound(k2, minus(gradient, slope), r);
+    held(jet.value.sub(level).add(symmetric(reach)))
+}
+
+impl Gyroid {
+    // For a level that is `level` at the centre and has the gradient `slope` over the box.
+    pub fn expansion(self, world: [Interval; 3], level: Interval, slope: [Interval; 3]) -> Residual
+        ensures { λ r. ⌜ r ≡ expansion self world level slope ⌝ }
+    {
+        if !all_finite(world) {
+            return Residual::None;
+        }
+        let jet = self.jet(centre(world));
+        let r = radii(world);
+        expanded(self.wave_squared, jet, level, slope, r)
+    }
+}
