@@ -4,16 +4,16 @@ use Rattle.grade.specs.Grade.{inLimits, minus, dot}
 use Rattle.grade.specs.Exact.{linearOf, constantDef, compiled, corner, atCorner, levelOver, linearRange, range, linearPiece, exactPiece}
 use Rattle.grade.specs.Refusals.{rangeRefusal}
 use Rattle.grade.specs.Certified.{axis, distance, rise, linearCertification, certification}
-use Rattle.grade.specs.Calls.{rangeValues}
+use Rattle.grade.specs.Calls.{rangeCall}
 use Rattle.grade.specs.Marked.{Marked}
 
 pub marked : Marked
-unfolding inLimits minus dot linearOf constantDef compiled corner atCorner levelOver linearRange range linearPiece exactPiece rangeRefusal rangeValues axis distance rise linearCertification certification
+unfolding inLimits minus dot linearOf constantDef compiled corner atCorner levelOver linearRange range linearPiece exactPiece rangeRefusal rangeCall axis distance rise linearCertification certification
 marked = record {
   length = refl;
-  one = (refl, refl);
-  two = (refl, refl);
-  three = (refl, refl);
+  one = refl;
+  two = refl;
+  three = refl;
   four = refl;
   five = refl;
   six = refl;

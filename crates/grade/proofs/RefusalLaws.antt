@@ -1,4 +1,4 @@
--- Refusals in a row: the first that is not 0 wins, and none refuses where all are 0. Assumes nothing.
+-- Refusals in a row: the first that is not 0 wins, and none refuses where all are 0; and an answer by its refusal. Assumes nothing.
 use mathlib.Core.Path.{_≡_, refl, sym, subst, _∙_}
 use mathlib.Core.Bool.{Bool, true, false, cond, not}
 use Prim.Native.Nat.{ℕ, suc}
@@ -40,3 +40,10 @@ or-else-assoc a b c = go (eqb a 0) refl
     go : (t : Bool) → eqb a 0 ≡ t → cond (eqb (cond t b a) 0) c (cond t b a) ≡ cond t (cond (eqb b 0) c b) a
     go true p = refl
     go false p = rw p refl
+
+-- ---- an answer by its refusal: n is the number that the code found, m the definition's
+pub refused-is : {A : Type 0} (f : ℕ → A) {n m : ℕ} (x : A) → n ≡ m → (n ≡ 0 → ⊥) → f n ≡ cond (eqb m 0) x (f m)
+refused-is f {n} x e h = subst (λ (k : ℕ). f n ≡ cond (eqb k 0) x (f k)) e (rw (ne-eqb n 0 h) refl)
+
+pub answer-is : {A : Type 0} {n m : ℕ} {x y : A} (z : A) → n ≡ m → n ≡ 0 → y ≡ x → y ≡ cond (eqb m 0) x z
+answer-is {x} {y} z e h p = subst (λ (k : ℕ). y ≡ cond (eqb k 0) x z) (sym h ∙ e) p

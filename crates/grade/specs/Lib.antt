@@ -7,6 +7,7 @@ pub mod Intervals
 pub mod Fast
 -- what the answers say of every rational point, the public call, and document 01's marked values
 pub mod Holds
+pub mod Said
 pub mod Calls
 pub mod Marked
 -- what the layer's functions ask of their arguments

@@ -11,9 +11,9 @@ use Rattle.grade.specs.declared.PieceAnswer.{PieceAnswer}
 use Rattle.grade.specs.declared.PieceAnswer.the-variants.{Found, None}
 use Rattle.grade.specs.Grade.{inLimits, lengthSq}
 use Rattle.grade.specs.Exact.{compiled, exactPiece}
-use Rattle.grade.specs.Refusals.{rangeRefusal}
 use Rattle.grade.specs.Certified.{certification}
-use Rattle.grade.specs.Calls.{rangeValues}
+use Rattle.grade.specs.Said.{found}
+use Rattle.grade.specs.Calls.{rangeCall}
 
 -- x alone; y and z are 0
 abbrev pub along : ℤ → List ℤ
@@ -29,7 +29,7 @@ G = ramp 10240 (negsuc 255) (pos 256)
 
 -- G over x from a to b: the two numerators over L, and the piece
 abbrev pub Ranges : ℤ → ℤ → ℤ → ℤ → Type 0
-Ranges a b low high = (rangeRefusal G (along a) (along b) ≡ 0) × (rangeValues G (along a) (along b) ≡ low ∷ high ∷ pos 104857600 ∷ [])
+Ranges a b low high = rangeCall G (along a) (along b) ≡ found (low ∷ high ∷ pos 104857600 ∷ [])
 
 abbrev pub PieceIs : ℤ → ℤ → PieceAnswer → Type 0
 PieceIs a b piece = exactPiece (compiled G) (along a) (along b) ≡ piece

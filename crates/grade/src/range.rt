@@ -1,13 +1,12 @@
 // The public call `grade_range`: the exact range of a level over a box of whole ticks. It refuses by document 01's numbers and takes any input.
 ghost use mathlib.Core.Path.{_≡_};
-ghost use Rattle.grade.specs.Refusals.{rangeRefusal};
-ghost use Rattle.grade.specs.Calls.{numberOf, valuesOf, rangeValues, Holds};
+ghost use Rattle.grade.specs.Calls.{rangeSaid, rangeCall, Holds};
 use crate::Grade;
 use crate::GradeDef;
 use crate::RangeAnswer;
 
 pub fn grade_range(grade: Grade, lo: [i64; 3], hi: [i64; 3]) -> RangeAnswer
-    ensures answer { λ r. ⌜ (numberOf r ≡ rangeRefusal grade lo hi) × (valuesOf r ≡ rangeValues grade lo hi) ⌝ }
+    ensures answer { λ r. ⌜ rangeSaid r ≡ rangeCall grade lo hi ⌝ }
     ensures holds { λ r. ⌜ Holds grade lo hi r ⌝ }
 {
     let number = grade.range_refusal(lo, hi);

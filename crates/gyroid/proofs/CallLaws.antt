@@ -1,5 +1,4 @@
--- What the proofs of the public calls share: the leaf behind a refusal of 0, what a call owes the functions that it calls, and an answer by
--- its refusal. Assumes nothing.
+-- What the proofs of the public calls share: the leaf behind a refusal of 0, and what a call owes the functions that it calls. Assumes nothing.
 use mathlib.Core.Path.{_≡_, refl, sym, ap, _∙_, subst}
 use mathlib.Core.Bool.{cond, not, _&&_}
 use mathlib.Core.List.{List}
@@ -29,13 +28,6 @@ use Rattle.gyroid.specs.Fast.{pointAt}
 use Rattle.gyroid.specs.Fits.{FastFits, Near}
 use Rattle.gyroid.specs.Calls.{pointBox, levelPieceRefusal}
 use Rattle.gyroid.proofs.AcceptedLaws.{Passed, accepted}
-
--- ---- an answer by its refusal: n is the number that the code found, m the definition's
-pub refused-is : {A : Type 0} (f : ℕ → A) {n m : ℕ} (x : A) → n ≡ m → (n ≡ 0 → ⊥) → f n ≡ cond (eqb m 0) x (f m)
-refused-is f {n} x e h = subst (λ (k : ℕ). f n ≡ cond (eqb k 0) x (f k)) e (rw (ne-eqb n 0 h) refl)
-
-pub answer-is : {A : Type 0} {n m : ℕ} {x y : A} (z : A) → n ≡ m → n ≡ 0 → y ≡ x → y ≡ cond (eqb m 0) x z
-answer-is {x} {y} z e h p = subst (λ (k : ℕ). y ≡ cond (eqb k 0) x z) (sym h ∙ e) p
 
 -- ---- what `certified` gave
 pub number-is : (d : Description) {m : Compiled} → m ≡ certified d → m .refusal ≡ refusal d

@@ -19,6 +19,7 @@ use Rattle.grade.specs.Exact.{compiled, exactPiece}
 use Rattle.grade.specs.Certified.{planes}
 use Rattle.grade.specs.Fast.{fast}
 use Rattle.grade.specs.Refusals.{refused, _orElse_, above}
+use Rattle.grade.specs.Said.{Said, found, refusing, answered}
 use Rattle.gyroid.specs.declared.Description.{Description}
 use Rattle.gyroid.specs.declared.Jet.{Jet}
 use Rattle.gyroid.specs.declared.Derivatives.{Derivatives}
@@ -39,22 +40,6 @@ use Rattle.gyroid.specs.Residual.{residual, affineResidual, boxState}
 use Rattle.gyroid.specs.Facet.{curvature, facetResidual}
 use Rattle.gyroid.specs.Derivatives.{noDerivatives, derivatives}
 use Rattle.gyroid.specs.Fast.{pointAt, fastDistance}
-
--- ---- what an answer says: the refusal's number, 0 for none, and its values, none where nothing is found
-pub record Said (A : Type 0) : Type 0 where
-  pub number : ℕ
-  pub values : List A
-
-abbrev pub found : {A : Type 0} → List A → Said A
-found v = record { number = 0; values = v }
-
--- "A refusal returns its number only."
-abbrev pub refusing : {A : Type 0} → ℕ → Said A
-refusing n = record { number = n; values = [] }
-
--- a call that the number n refuses, and that says v where n is 0
-abbrev pub answered : {A : Type 0} → ℕ → List A → Said A
-answered n v = cond (eqb n 0) (found v) (refusing n)
 
 -- ---- the number and the values of each case
 abbrev pub enclosureSaid : EnclosureAnswer → Said Float

@@ -5,11 +5,12 @@ use Prim.Native.Nat.{ℕ}
 use lib.IntN.{ℤ, pos, negsuc}
 use Rattle.grade.specs.declared.Grade.{Grade}
 use Rattle.grade.specs.Grade.{lengthSq}
+use Rattle.grade.specs.Said.{found}
 use Rattle.grade.specs.Marked.{along, ramp, G, Ranges}
 use Rattle.gyroid.specs.declared.Description.{Description}
 use Rattle.gyroid.specs.Description.{origin}
 use Rattle.gyroid.specs.Refusals.{refusal}
-use Rattle.gyroid.specs.Calls.{found, levelPieceCall}
+use Rattle.gyroid.specs.Calls.{levelPieceCall}
 
 -- a network in the part frame
 abbrev pub core : Grade → Description

@@ -1,7 +1,8 @@
 // The public calls: each takes a description, refuses by document 01's numbers and answers any input. Each compiles its description; none
 // keeps anything.
 ghost use mathlib.Core.Path.{_≡_};
-ghost use Rattle.gyroid.specs.Calls.{found, enclosureSaid, stateSaid, levelPieceSaid, truthSaid, planesSaid, doubleSaid, ends, residualValues, pieceValues, planesValues, saturatedBy, gradedCall, saturatedCall, planesCall, curvatureCall, lipschitzCall, levelPieceCall, jetCall, affineJetCall, derivativesCall, residualCall, affineResidualCall, boxStateCall, facetResidualCall, fastCall, fastDistanceCall};
+ghost use Rattle.grade.specs.Said.{found};
+ghost use Rattle.gyroid.specs.Calls.{enclosureSaid, stateSaid, levelPieceSaid, truthSaid, planesSaid, doubleSaid, ends, residualValues, pieceValues, planesValues, saturatedBy, gradedCall, saturatedCall, planesCall, curvatureCall, lipschitzCall, levelPieceCall, jetCall, affineJetCall, derivativesCall, residualCall, affineResidualCall, boxStateCall, facetResidualCall, fastCall, fastDistanceCall};
 use crate::Derivatives;
 use crate::Description;
 use crate::DoubleAnswer;

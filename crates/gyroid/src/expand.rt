@@ -1,6 +1,5 @@
 // `expansion`: the residual over a box, to second order about its centre.
 ghost use mathlib.Core.Path.{_≡_};
-ghost use Rattle.interval.specs.Interval.{greatest};
 ghost use Rattle.gyroid.specs.Residual.{centre, radius, radii, reach, spread, curvedOf, curved, bound, held, expanded, expansion};
 use crate::Gyroid;
 use crate::Jet;
@@ -9,6 +8,7 @@ use crate::floats::all_finite;
 use crate::jets::minus;
 use crate::turns::symmetric;
 use interval::Interval;
+use interval::outward::larger;
 
 pub fn centre(w: [Interval; 3]) -> [Interval; 3]
     ensures { λ r. ⌜ r ≡ centre w ⌝ }
@@ -17,12 +17,6 @@ pub fn centre(w: [Interval; 3]) -> [Interval; 3]
     let y = Interval::point(w[1].mid());
     let z = Interval::point(w[2].mid());
     [x, y, z]
-}
-
-pub fn larger(a: f64, b: f64) -> f64
-    ensures { λ r. ⌜ r ≡ greatest a b ⌝ }
-{
-    if a < b { b } else { a }
 }
 
 // The half-width of an interval.

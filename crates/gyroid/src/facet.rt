@@ -1,21 +1,15 @@
 // `facet_residual`: the residual over a triangle, about its centroid. It is equal to its definition and promises no enclosure.
 ghost use mathlib.Core.Path.{_≡_};
 ghost use Rattle.gyroid.specs.Facet.{curvature, third, centroidOf, centroid, dot, squared, noCorners, joined, withCorner, corners, facetCurved, facetOf, facetResidual};
-ghost use Rattle.interval.specs.Interval.{least};
 use crate::Corners;
 use crate::Gyroid;
 use crate::Jet;
 use crate::Residual;
 use crate::expand::held;
-use crate::expand::larger;
 use crate::jets::minus;
 use interval::Interval;
-
-fn smaller(a: f64, b: f64) -> f64
-    ensures { λ r. ⌜ r ≡ least a b ⌝ }
-{
-    if b < a { b } else { a }
-}
+use interval::outward::larger;
+use interval::outward::smaller;
 
 fn third(a: Interval, b: Interval, c: Interval) -> Interval
     ensures { λ r. ⌜ r ≡ third a b c ⌝ }

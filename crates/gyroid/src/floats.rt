@@ -3,13 +3,16 @@ ghost use mathlib.Core.Path.{_≡_};
 ghost use Rattle.interval.specs.Step.{b64};
 ghost use Rattle.gyroid.specs.Refusals.{ordered, between, farthest, greatestDouble, allOrdered, allNear, allFinite, boxRefusal, finiteBoxRefusal, triangleRefusal};
 ghost use Rattle.gyroid.specs.Calls.{pointBox};
+use crate::Gyroid;
 use grade::refusals::or_else;
 use grade::refusals::refused;
 use interval::Interval;
 use interval::step::MAX;
 
-// No end or point of the float input may lie beyond it.
-pub const FARTHEST: f64 = 1_099_511_627_776.0;
+impl Gyroid {
+    // No end or point of a call's float input may lie beyond it.
+    pub const FARTHEST: f64 = 1_099_511_627_776.0;
+}
 
 fn ordered(b: Interval) -> bool
     ensures { λ r. ⌜ r ≡ ordered b ⌝ }
@@ -20,7 +23,10 @@ fn ordered(b: Interval) -> bool
 fn near(b: Interval) -> bool
     ensures { λ r. ⌜ r ≡ between farthest b ⌝ }
 {
-    (-FARTHEST <= b.lo) & (b.lo <= FARTHEST) & (-FARTHEST <= b.hi) & (b.hi <= FARTHEST)
+    (-Gyroid::FARTHEST <= b.lo)
+        & (b.lo <= Gyroid::FARTHEST)
+        & (-Gyroid::FARTHEST <= b.hi)
+        & (b.hi <= Gyroid::FARTHEST)
 }
 
 fn finite(b: Interval) -> bool

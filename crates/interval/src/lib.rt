@@ -4,7 +4,7 @@ ghost use mathlib.Core.Path.{_≡_};
 ghost use Rattle.interval.specs.Interval.{point, twoPi, sum, difference, product, quotient, negation, square, mid, abs, magnitude, imin, imax, clamp01};
 
 pub mod step; // the next double above and below
-mod outward; // both ends stepped at once
+pub mod outward; // both ends stepped at once; the lesser and the greater of two doubles
 pub mod nearest; // the nearest double of a fraction, and its interval
 pub mod floor; // the floor, the quarter number and its remainder
 pub mod series; // the coefficients of sine and cosine, and their tails

@@ -1,12 +1,13 @@
 -- The refusals say what the calls behind them ask. Assumes nothing.
 use mathlib.Core.Path.{sym, ap, _∙_, subst⁻¹}
-use borrow.Author.Tests.{ne-eqb}
 use borrow.Author.Needs.{needs}
 use Rattle.grade.specs.Holds.{RangeHolds}
 use Rattle.grade.specs.Exact.{range}
-use Rattle.grade.specs.Calls.{rangeValues}
+use Rattle.grade.specs.Said.{found, refusing}
+use Rattle.grade.specs.Calls.{three, rangeCall}
 use Rattle.grade.specs.Fits.{DefFits}
 use Rattle.grade.proofs.RangeLaws.{range-holds}
+use Rattle.grade.proofs.RefusalLaws.{refused-is, answer-is}
 use Rattle.grade.proofs.Accepted.{accepted, compiled-fits}
 use Rattle.grade.proofs.range.grade_range.Statement.{statement}
 use Rattle.grade.proofs.range.grade_range.Tie as tie
@@ -15,10 +16,8 @@ range-refusal-requires : tie.Need-range-refusal-requires
 range-refusal-requires c κs = search needs
 
 returns : tie.Need-returns
-unfolding rangeValues
-returns c =
-    let e = c .before .range-refusal .ensures in
-    ((e, sym (rw (sym e, ne-eqb _ _ (c .if1 .taken)))), tt)
+unfolding rangeCall
+returns c = (refused-is (λ k. refusing k) _ (c .before .range-refusal .ensures) (c .if1 .taken), tt)
 
 compile-requires : tie.Need-compile-requires
 compile-requires c κs = accepted _ _ _ (sym (c .before .range-refusal .ensures) ∙ c .if1 .left) .limits
@@ -30,7 +29,7 @@ range-requires c κs =
     (subst⁻¹ DefFits (c .compile .ensures) (compiled-fits (c3 .args .grade) (a .limits) (a .apart)), (a .low, a .high))
 
 returns-2 : tie.Need-returns-2
-unfolding rangeValues
+unfolding rangeCall
 returns-2 c =
     let c3 = c .before .before .before in
     let c4 = c3 .before in
@@ -39,7 +38,7 @@ returns-2 c =
     let hi = c4 .args .hi in
     let e = sym (c3 .range-refusal .ensures) ∙ c .before .before .if1 .left in
     let b = c .range .ensures ∙ ap (λ d. range d lo hi) (c .before .compile .ensures) in
-    ((sym e, rw (e, b)), subst⁻¹ (RangeHolds g lo hi) b (range-holds g lo hi (accepted g lo hi e .apart)))
+    (answer-is _ (c3 .range-refusal .ensures) (c .before .before .if1 .left) (ap (λ r. found (three r)) b), subst⁻¹ (RangeHolds g lo hi) b (range-holds g lo hi (accepted g lo hi e .apart)))
 
 pub grade-range-spec : {M : Type 1} → statement M
 grade-range-spec =

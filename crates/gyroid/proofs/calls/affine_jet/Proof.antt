@@ -2,10 +2,10 @@
 use mathlib.Core.Path.{sym, ap, ap₂, _∙_}
 use borrow.Author.Needs.{needs}
 use Rattle.grade.specs.Refusals.{_orElse_}
-use Rattle.grade.proofs.RefusalLaws.{neither}
+use Rattle.grade.proofs.RefusalLaws.{neither, refused-is, answer-is}
 use Rattle.gyroid.specs.Calls.{affineJetCall}
 use Rattle.gyroid.specs.Jet.{noJet, affineJet}
-use Rattle.gyroid.proofs.CallLaws.{refused-is, answer-is, number-is, leaf-is}
+use Rattle.gyroid.proofs.CallLaws.{number-is, leaf-is}
 use Rattle.gyroid.proofs.calls.affine_jet.Statement.{statement}
 use Rattle.gyroid.proofs.calls.affine_jet.Tie as tie
 

@@ -3,10 +3,11 @@ use mathlib.Core.Path.{sym, ap, ap₂, _∙_}
 use mathlib.Core.List.{[], _∷_}
 use borrow.Author.Needs.{needs}
 use Rattle.grade.specs.Refusals.{_orElse_}
-use Rattle.grade.proofs.RefusalLaws.{neither}
-use Rattle.gyroid.specs.Calls.{found, refusing, stateNumber, boxStateCall}
+use Rattle.grade.proofs.RefusalLaws.{neither, refused-is, answer-is}
+use Rattle.grade.specs.Said.{found, refusing}
+use Rattle.gyroid.specs.Calls.{stateNumber, boxStateCall}
 use Rattle.gyroid.specs.Residual.{boxState}
-use Rattle.gyroid.proofs.CallLaws.{refused-is, answer-is, number-is, leaf-is}
+use Rattle.gyroid.proofs.CallLaws.{number-is, leaf-is}
 use Rattle.gyroid.proofs.calls.box_state.Statement.{statement}
 use Rattle.gyroid.proofs.calls.box_state.Tie as tie
 

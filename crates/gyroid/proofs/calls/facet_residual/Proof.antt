@@ -2,10 +2,11 @@
 use mathlib.Core.Path.{sym, ap, ap₂, _∙_}
 use borrow.Author.Needs.{needs}
 use Rattle.grade.specs.Refusals.{_orElse_}
-use Rattle.grade.proofs.RefusalLaws.{neither}
-use Rattle.gyroid.specs.Calls.{found, refusing, residualValues, facetResidualCall}
+use Rattle.grade.proofs.RefusalLaws.{neither, refused-is, answer-is}
+use Rattle.grade.specs.Said.{found, refusing}
+use Rattle.gyroid.specs.Calls.{residualValues, facetResidualCall}
 use Rattle.gyroid.specs.Facet.{facetResidual}
-use Rattle.gyroid.proofs.CallLaws.{refused-is, answer-is, number-is, leaf-is}
+use Rattle.gyroid.proofs.CallLaws.{number-is, leaf-is}
 use Rattle.gyroid.proofs.calls.facet_residual.Statement.{statement}
 use Rattle.gyroid.proofs.calls.facet_residual.Tie as tie
 

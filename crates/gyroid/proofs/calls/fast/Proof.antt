@@ -3,12 +3,13 @@ use mathlib.Core.Path.{sym, ap, ap₂, _∙_, subst⁻¹}
 use mathlib.Core.List.{[], _∷_}
 use borrow.Author.Needs.{needs}
 use Rattle.grade.specs.Refusals.{_orElse_}
-use Rattle.grade.proofs.RefusalLaws.{neither}
+use Rattle.grade.proofs.RefusalLaws.{neither, refused-is, answer-is}
 use Rattle.grade.specs.Fast.{fast}
 use Rattle.grade.specs.Fits.{DefFits}
-use Rattle.gyroid.specs.Calls.{found, refusing, fastCall}
+use Rattle.grade.specs.Said.{found, refusing}
+use Rattle.gyroid.specs.Calls.{fastCall}
 use Rattle.gyroid.specs.Refusals.{boxRefusal}
-use Rattle.gyroid.proofs.CallLaws.{refused-is, answer-is, number-is, grade-is}
+use Rattle.gyroid.proofs.CallLaws.{number-is, grade-is}
 use Rattle.gyroid.proofs.AcceptedLaws.{accepted}
 use Rattle.gyroid.proofs.calls.fast.Statement.{statement}
 use Rattle.gyroid.proofs.calls.fast.Tie as tie

@@ -3,12 +3,13 @@ use mathlib.Core.Path.{sym, ap, ap₂, _∙_, subst⁻¹}
 use mathlib.Core.List.{[], _∷_}
 use borrow.Author.Needs.{needs}
 use Rattle.grade.specs.Refusals.{_orElse_}
-use Rattle.grade.proofs.RefusalLaws.{neither}
-use Rattle.gyroid.specs.Calls.{found, refusing, fastDistanceCall}
+use Rattle.grade.proofs.RefusalLaws.{neither, refused-is, answer-is}
+use Rattle.grade.specs.Said.{found, refusing}
+use Rattle.gyroid.specs.Calls.{fastDistanceCall}
 use Rattle.gyroid.specs.Refusals.{boxRefusal}
 use Rattle.gyroid.specs.Fast.{fastDistance}
 use Rattle.gyroid.specs.Fits.{FastFits}
-use Rattle.gyroid.proofs.CallLaws.{refused-is, answer-is, number-is, leaf-is, fast-fits, near}
+use Rattle.gyroid.proofs.CallLaws.{number-is, leaf-is, fast-fits, near}
 use Rattle.gyroid.proofs.calls.fast_distance.Statement.{statement}
 use Rattle.gyroid.proofs.calls.fast_distance.Tie as tie
 

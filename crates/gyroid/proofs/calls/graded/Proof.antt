@@ -2,8 +2,10 @@
 use mathlib.Core.Path.{sym, ap, _∙_}
 use mathlib.Core.List.{[], _∷_}
 use borrow.Author.Needs.{needs}
-use Rattle.gyroid.specs.Calls.{found, refusing, isGraded, gradedCall}
-use Rattle.gyroid.proofs.CallLaws.{refused-is, answer-is, number-is, grade-is}
+use Rattle.grade.specs.Said.{found, refusing}
+use Rattle.grade.proofs.RefusalLaws.{refused-is, answer-is}
+use Rattle.gyroid.specs.Calls.{isGraded, gradedCall}
+use Rattle.gyroid.proofs.CallLaws.{number-is, grade-is}
 use Rattle.gyroid.proofs.calls.graded.Statement.{statement}
 use Rattle.gyroid.proofs.calls.graded.Tie as tie
 

@@ -5,8 +5,10 @@ use borrow.Author.Needs.{needs}
 use Rattle.grade.specs.Exact.{exactPiece}
 use Rattle.grade.specs.Refusals.{refused, _orElse_}
 use Rattle.grade.specs.Fits.{DefFits}
-use Rattle.gyroid.specs.Calls.{found, refusing, pieceValues, levelPieceRefusal, levelPieceCall}
-use Rattle.gyroid.proofs.CallLaws.{refused-is, answer-is, number-is, grade-is, piece-accepted}
+use Rattle.grade.specs.Said.{found, refusing}
+use Rattle.grade.proofs.RefusalLaws.{refused-is, answer-is}
+use Rattle.gyroid.specs.Calls.{pieceValues, levelPieceRefusal, levelPieceCall}
+use Rattle.gyroid.proofs.CallLaws.{number-is, grade-is, piece-accepted}
 use Rattle.gyroid.proofs.AcceptedLaws.{accepted}
 use Rattle.gyroid.proofs.calls.level_piece.Statement.{statement}
 use Rattle.gyroid.proofs.calls.level_piece.Tie as tie

@@ -1,8 +1,10 @@
 -- By the refusals; a leaf behind a refusal of 0 is the description's. Assumes nothing.
 use mathlib.Core.Path.{sym, _∙_}
 use borrow.Author.Needs.{needs}
-use Rattle.gyroid.specs.Calls.{found, refusing, ends, lipschitzCall}
-use Rattle.gyroid.proofs.CallLaws.{refused-is, answer-is, number-is, leaf-is}
+use Rattle.grade.specs.Said.{found, refusing}
+use Rattle.grade.proofs.RefusalLaws.{refused-is, answer-is}
+use Rattle.gyroid.specs.Calls.{ends, lipschitzCall}
+use Rattle.gyroid.proofs.CallLaws.{number-is, leaf-is}
 use Rattle.gyroid.proofs.calls.lipschitz.Statement.{statement}
 use Rattle.gyroid.proofs.calls.lipschitz.Tie as tie
 

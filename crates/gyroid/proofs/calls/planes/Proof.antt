@@ -3,8 +3,10 @@ use mathlib.Core.Path.{sym, ap, _∙_, subst⁻¹}
 use borrow.Author.Needs.{needs}
 use Rattle.grade.specs.Certified.{planes}
 use Rattle.grade.specs.Fits.{DefFits}
-use Rattle.gyroid.specs.Calls.{found, refusing, planesValues, planesCall}
-use Rattle.gyroid.proofs.CallLaws.{refused-is, answer-is, number-is, grade-is}
+use Rattle.grade.specs.Said.{found, refusing}
+use Rattle.grade.proofs.RefusalLaws.{refused-is, answer-is}
+use Rattle.gyroid.specs.Calls.{planesValues, planesCall}
+use Rattle.gyroid.proofs.CallLaws.{number-is, grade-is}
 use Rattle.gyroid.proofs.AcceptedLaws.{accepted}
 use Rattle.gyroid.proofs.calls.planes.Statement.{statement}
 use Rattle.gyroid.proofs.calls.planes.Tie as tie

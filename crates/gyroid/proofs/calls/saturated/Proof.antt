@@ -2,8 +2,10 @@
 use mathlib.Core.Path.{sym, _∙_}
 use borrow.Author.Needs.{needs}
 use Rattle.exact.proofs.Signed.{back}
-use Rattle.gyroid.specs.Calls.{found, refusing, saturatedBy, saturatedCall}
-use Rattle.gyroid.proofs.CallLaws.{refused-is, answer-is, number-is, grade-is}
+use Rattle.grade.specs.Said.{found, refusing}
+use Rattle.grade.proofs.RefusalLaws.{refused-is, answer-is}
+use Rattle.gyroid.specs.Calls.{saturatedBy, saturatedCall}
+use Rattle.gyroid.proofs.CallLaws.{number-is, grade-is}
 use Rattle.gyroid.proofs.calls.saturated.Statement.{statement}
 use Rattle.gyroid.proofs.calls.saturated.Tie as tie
 
