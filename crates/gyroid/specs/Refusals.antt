@@ -34,7 +34,7 @@ abbrev pub unsupported : ℕ → ℕ
 unsupported n = cond (eqb n 4 || eqb n 5) 3 n
 
 -- ---- doubles: row "float input, after the description". An input is a box of three intervals, a triangle of three such corners, or a point
--- "9: NaN or low above high": not low ≤ high, as a NaN is at most nothing
+-- what is not ordered: "9: NaN or low above high". `le-is` of the interval layer: low ≤ high fails there and nowhere else
 abbrev pub ordered : Interval → Bool
 ordered b = le (b .lo) (b .hi)
 

@@ -60,7 +60,9 @@ impl Description {
             return first;
         }
         let grade = GradeDef::compile(level);
-        or_else(grade.check_certified(), refused(!frame.is_part(), 3))
+        let certified = grade.check_certified();
+        let part = refused(!frame.is_part(), 3);
+        or_else(certified, part)
     }
 }
 

@@ -1,10 +1,10 @@
 -- What the tests of finite doubles say of the fractions that they are; the lesser and the greater of two doubles. Assumes nothing.
 use mathlib.Core.Bool.{Bool, true, false, not, _&&_, _||_, Bool·beq}
-use Prim.Native.Nat.{ℕ, _+_, _*_}
+use Prim.Native.Nat.{ℕ, _+_, _*_, _≤_}
 use native.Mathlib.Omega.{arith}
-use mathlib.Core.Path.{_≡_}
-use lib.Dec.{T, eqb, ltb→lt, nltb→le, eqb→eq}
-use lib.Ieee.{Float, nan, inf, fin, below, level, lt, eq, le, up, down}
+use mathlib.Core.Path.{_≡_, refl, subst}
+use lib.Dec.{T, not-T, eqb, eqb-refl, ltb→lt, nltb→le, eqb→eq}
+use lib.Ieee.{Float, nan, inf, fin, below, level, lt, eq, le, isNan, up, down}
 use lib.Ieee.Scale.{finite}
 use Rattle.exact.specs.Fraction.{_≤F_, _<F_}
 use Rattle.exact.proofs.Choice.{choose}
@@ -78,6 +78,61 @@ lt-le x y h = go (lt x y) (eq x y) h
     go : (u v : Bool) → T u → T (u || v)
     go true v t = tt
     go false v t = absurd t
+
+-- ---- x ≤ y fails where one is a NaN and where x is above y, and nowhere else
+alike : (b c : Bool) → (T b → T c) → (T c → T b) → b ≡ c
+alike true true f g = refl
+alike true false f g = absurd (f tt)
+alike false true f g = absurd (g tt)
+alike false false f g = refl
+
+module _ (a b : ℕ) where
+  same : a ≤ b → b ≤ a → T (eqb a b)
+  same h k = subst (λ (n : ℕ). T (eqb a n)) (together h k) (eqb-refl a)
+    where
+      together : a ≤ b → b ≤ a → a ≡ b
+      together h k = omega arith
+
+both-yes : (x y : Bool) → T x → T y → T (x && y)
+both-yes true y t u = u
+both-yes false y t u = absurd t
+
+level-yes : (s t : Bool) (a b : ℕ) → Le s a t b → Le t b s a → T (level s a t b)
+level-yes false false a b h k = both-yes (eqb a b) true (same a b (omega arith) (omega arith)) tt
+level-yes true true a b h k = both-yes (eqb a b) true (same a b (omega arith) (omega arith)) tt
+level-yes false true a b h k = both-yes (eqb a b) (eqb a 0) (same a b (omega arith) (omega arith)) (same a 0 (omega arith) (omega arith))
+level-yes true false a b h k = both-yes (eqb a b) (eqb a 0) (same a b (omega arith) (omega arith)) (same a 0 (omega arith) (omega arith))
+
+sizes-le : (s t : Bool) (a b : ℕ) → (below s a t b || level s a t b) ≡ not (below t b s a)
+sizes-le s t a b = alike (below s a t b || level s a t b) (not (below t b s a))
+    (λ h. not-T (below t b s a) (λ k. apart (at-most (below s a t b) (level s a t b) (lt-sizes s t a b) (eq-sizes s t a b) h) (lt-sizes t s b a k)))
+    (λ h. some (below s a t b) (nlt-sizes s t a b) (nlt-sizes t s b a h))
+  where
+    at-most : (u v : Bool) → (T u → Lt s a t b) → (T v → Le s a t b) → T (u || v) → Le s a t b
+    at-most true v f g h = let k = f tt in omega arith
+    at-most false v f g h = g h
+
+    apart : Le s a t b → Lt t b s a → ⊥
+    apart h k = omega arith
+
+    some : (u : Bool) → (T (not u) → Le t b s a) → Le s a t b → T (u || level s a t b)
+    some true f h = tt
+    some false f h = level-yes s t a b h (f tt)
+
+pub le-is : (x y : Float) → le x y ≡ not (isNan x || isNan y || lt y x)
+unfolding le lt eq isNan
+le-is nan y = refl
+le-is (inf s) nan = refl
+le-is (inf true) (inf true) = refl
+le-is (inf true) (inf false) = refl
+le-is (inf false) (inf true) = refl
+le-is (inf false) (inf false) = refl
+le-is (inf true) (fin t n d) = refl
+le-is (inf false) (fin t n d) = refl
+le-is (fin s m e) nan = refl
+le-is (fin s m e) (inf true) = refl
+le-is (fin s m e) (inf false) = refl
+le-is (fin s m e) (fin t n d) = sizes-le s t (m * up e * down d) (n * up d * down e)
 
 -- ---- the lesser and the greater: one of the two, and a bound of both
 module _ (x y : Float) where
