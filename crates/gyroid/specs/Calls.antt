@@ -1,5 +1,5 @@
--- The public calls: document 01's number and values for each case of an answer, and what each call says of any input. Definitions only;
--- assumes nothing.
+-- The public calls: document 01's number and values for each case of an answer, and what each call says of any input.
+-- Definitions only; assumes nothing.
 use mathlib.Core.Bool.{Bool, true, false, cond, not, _&&_}
 use mathlib.Core.List.{List, [], _∷_}
 use Prim.Native.Nat.{ℕ}

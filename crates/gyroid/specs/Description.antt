@@ -20,6 +20,6 @@ inLimits d = tick (d .period) && leZ (pos 0) (d .kind) && leZ (d .kind) (pos 1) 
 abbrev pub origin : List ℤ
 origin = pos 0 ∷ pos 0 ∷ pos 0 ∷ []
 
--- "w > 0, x = y = z = 0 and translation 0"
+-- whether the frame is the part's own, which alone is accepted: "w > 0, x = y = z = 0 and translation 0"
 unfoldable pub partFrame : Frame → Bool
 partFrame f = ltZ (pos 0) (f .w) && eqZ (f .x) (pos 0) && eqZ (f .y) (pos 0) && eqZ (f .z) (pos 0) && same (f .translation) origin

@@ -37,5 +37,5 @@ pub record Marked : Type 0 where
   pub nine : refusal (core (ramp 5120 (negsuc 255) (pos 256))) ≡ 0
   pub ten : refusal (core (ramp 5119 (negsuc 255) (pos 256))) ≡ 5
   pub eleven : refusal (core (ramp 10240 (pos 257) (pos 256))) ≡ 5
-  -- "(12) from = to with start = end refused 2."
+  -- the anchors are tested before the ends are compared: "(12) from = to with start = end refused 2."
   pub twelve : refusal (core (ramp 0 (pos 0) (pos 0))) ≡ 2

@@ -1,5 +1,5 @@
--- Refusals by document 01's numbers, in the table's order: of a description, of doubles. The first that fails wins. Definitions only;
--- assumes nothing.
+-- Refusals by document 01's numbers, in the table's order: of a description, of doubles. The first that fails wins.
+-- Definitions only; assumes nothing.
 use mathlib.Core.Bool.{Bool, cond, not, _&&_, _||_}
 use mathlib.Core.List.{List, []}
 use Prim.Native.Nat.{ℕ}
@@ -18,7 +18,9 @@ use Rattle.grade.specs.Refusals.{refused, _orElse_, isDistance, coincident}
 use Rattle.gyroid.specs.declared.Description.{Description}
 use Rattle.gyroid.specs.Description.{inLimits, partFrame}
 
--- ---- a description: rows "description", "period", "kind", "level", "certification" and "frame"
+-- ---- a description: the table's rows "description", "period", "kind", "level", "certification" and "frame", which are
+--   "1: entry outside its limits or kinds", "2: a ≤ 0", "3: sheet", "2: linear, from = to; 3: distance",
+--   4 and 5 of the grade's certification, and "3: unless w > 0, x = y = z = 0 and translation 0"
 unfoldable pub refusal : Description → ℕ
 refusal d =
     refused (not (inLimits d)) 1 orElse
@@ -53,14 +55,14 @@ greatestDouble = b64 0x7fef_ffff_ffff_ffff
 abbrev pub every : (Interval → Bool) → List Interval → Bool
 every f w = f (boxAt w 0) && f (boxAt w 1) && f (boxAt w 2)
 
--- each corner of a triangle
+-- a corner of a triangle
 abbrev pub corner : List (List Interval) → ℕ → List Interval
 corner c i = getD c i []
 
 unfoldable pub allOrdered : List Interval → Bool
 allOrdered w = every ordered w
 
--- "10: an end or point beyond 2^40 in size"
+-- what is not near: "10: an end or point beyond 2^40 in size"
 unfoldable pub allNear : List Interval → Bool
 allNear w = every (between farthest) w
 
@@ -75,7 +77,7 @@ boxRefusal w = refused (not (allOrdered w)) 9 orElse refused (not (allNear w)) 1
 unfoldable pub finiteBoxRefusal : List Interval → ℕ
 finiteBoxRefusal w = refused (not (allOrdered w)) 9 orElse refused (allFinite w && not (allNear w)) 10
 
--- "9 over the whole input", of the three corners
+-- the three corners: 9 is asked of all of them before 10 is of any
 unfoldable pub triangleRefusal : List (List Interval) → ℕ
 triangleRefusal c =
     refused (not (allOrdered (corner c 0) && allOrdered (corner c 1) && allOrdered (corner c 2))) 9 orElse
