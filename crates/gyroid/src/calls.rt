@@ -1,8 +1,7 @@
 // The public calls: each takes a description, refuses by document 01's numbers and answers any input. Each compiles its description; none
 // keeps anything.
 ghost use mathlib.Core.Path.{_≡_};
-ghost use Rattle.grade.specs.Said.{found};
-ghost use Rattle.gyroid.specs.Calls.{enclosureSaid, stateSaid, levelPieceSaid, truthSaid, planesSaid, doubleSaid, ends, residualValues, pieceValues, planesValues, saturatedBy, gradedCall, saturatedCall, planesCall, curvatureCall, lipschitzCall, levelPieceCall, jetCall, affineJetCall, derivativesCall, residualCall, affineResidualCall, boxStateCall, facetResidualCall, fastCall, fastDistanceCall};
+ghost use Rattle.gyroid.specs.Calls.{enclosureSaid, stateSaid, levelPieceSaid, truthSaid, planesSaid, doubleSaid, gradedCall, saturatedCall, planesCall, curvatureCall, lipschitzCall, levelPieceCall, jetCall, affineJetCall, derivativesCall, residualCall, affineResidualCall, boxStateCall, facetResidualCall, fastCall, fastDistanceCall};
 use crate::Derivatives;
 use crate::Description;
 use crate::DoubleAnswer;
@@ -11,75 +10,23 @@ use crate::Gyroid;
 use crate::Jet;
 use crate::LevelPieceAnswer;
 use crate::PlanesAnswer;
-use crate::Residual;
 use crate::StateAnswer;
 use crate::TruthAnswer;
+use crate::answers::enclosure;
+use crate::answers::piece_answer;
+use crate::answers::planes_answer;
+use crate::answers::saturation;
 use crate::floats::box_refusal;
 use crate::floats::finite_box_refusal;
 use crate::floats::point_box;
 use crate::floats::triangle_refusal;
 use grade::LevelKind;
 use grade::Piece;
-use grade::PieceAnswer;
-use grade::Planes;
 use grade::limits::above;
 use grade::limits::ticks;
 use grade::refusals::or_else;
 use grade::refusals::refused;
 use interval::Interval;
-
-fn enclosure(v: Interval) -> EnclosureAnswer
-    ensures { λ r. ⌜ enclosureSaid r ≡ found (ends v) ⌝ }
-{
-    EnclosureAnswer::Found { lo: v.lo, hi: v.hi }
-}
-
-impl Residual {
-    fn answer(self) -> EnclosureAnswer
-        ensures { λ r. ⌜ enclosureSaid r ≡ found (residualValues self) ⌝ }
-    {
-        match self {
-            Residual::Enclosure { lo, hi } => EnclosureAnswer::Found { lo, hi },
-            Residual::None => EnclosureAnswer::None,
-        }
-    }
-}
-
-fn piece_answer(p: PieceAnswer) -> LevelPieceAnswer
-    ensures { λ r. ⌜ levelPieceSaid r ≡ found (pieceValues p) ⌝ }
-{
-    match p {
-        PieceAnswer::Found(piece) => LevelPieceAnswer::Found(piece),
-        PieceAnswer::None => LevelPieceAnswer::None,
-    }
-}
-
-fn planes_answer(p: Planes) -> PlanesAnswer
-    ensures { λ r. ⌜ planesSaid r ≡ found (planesValues p) ⌝ }
-{
-    match p {
-        Planes::Found { axis, from, to } => PlanesAnswer::Found { axis, from, to },
-        Planes::None => PlanesAnswer::None,
-    }
-}
-
-// Of a level in level counts.
-fn saturation(kind: LevelKind, level: i64) -> TruthAnswer
-    ensures { λ r. ⌜ truthSaid r ≡ found (saturatedBy kind level) ⌝ }
-{
-    match kind {
-        LevelKind::Constant => {
-            if 1536 <= level {
-                return TruthAnswer::Found(true);
-            }
-            if level <= -1536 {
-                return TruthAnswer::Found(false);
-            }
-            TruthAnswer::None
-        }
-        LevelKind::Linear => TruthAnswer::None,
-    }
-}
 
 // Whether the level is a ramp.
 pub fn graded(description: Description) -> TruthAnswer

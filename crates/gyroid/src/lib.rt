@@ -10,6 +10,7 @@ mod facet; // the residual over a triangle
 mod hessian; // the gradient and the Hessian over a box
 mod fast; // the surface in doubles
 pub mod floats; // refusals of doubles
+mod answers; // what the layer answers, as the calls answer it
 pub mod calls; // the public calls
 
 use grade::Grade;

@@ -1,7 +1,7 @@
 -- By the case. Assumes nothing.
 use borrow.Author.Needs.{needs}
-use Rattle.gyroid.proofs.calls.piece_answer.Statement.{statement}
-use Rattle.gyroid.proofs.calls.piece_answer.Tie as tie
+use Rattle.gyroid.proofs.answers.piece_answer.Statement.{statement}
+use Rattle.gyroid.proofs.answers.piece_answer.Tie as tie
 
 enum-known-p : tie.Need-enum-known-p
 enum-known-p c = search needs

@@ -1,8 +1,8 @@
 -- By the case; the positions are read back from their bits. Assumes nothing.
 use borrow.Author.Needs.{needs}
 use Rattle.exact.proofs.Signed.{back}
-use Rattle.gyroid.proofs.calls.planes_answer.Statement.{statement}
-use Rattle.gyroid.proofs.calls.planes_answer.Tie as tie
+use Rattle.gyroid.proofs.answers.planes_answer.Statement.{statement}
+use Rattle.gyroid.proofs.answers.planes_answer.Tie as tie
 
 enum-known-p : tie.Need-enum-known-p
 enum-known-p c = search needs

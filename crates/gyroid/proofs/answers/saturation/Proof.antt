@@ -1,8 +1,8 @@
 -- By the kind and the level. Assumes nothing.
 use borrow.Author.Needs.{needs}
 use Rattle.exact.proofs.Signed.{back}
-use Rattle.gyroid.proofs.calls.saturation.Statement.{statement}
-use Rattle.gyroid.proofs.calls.saturation.Tie as tie
+use Rattle.gyroid.proofs.answers.saturation.Statement.{statement}
+use Rattle.gyroid.proofs.answers.saturation.Tie as tie
 
 enum-told : tie.Need-enum-told
 enum-told c = search needs
