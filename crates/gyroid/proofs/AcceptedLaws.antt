@@ -57,6 +57,7 @@ pub record Passed (d : Description) : Type 0 where
   pub period : Within 1048576 (d .period)
   pub above : pos 0 <ℤ d .period
   pub level : InLimits (d .level)
+  pub apart : T (not (coincident (d .level)))
   pub fits : DefFits (compiled (d .level))
 
 not-most : (z : ℤ) → T (not (leZ z (pos 0))) → pos 0 <ℤ z
@@ -78,7 +79,7 @@ passed d e =
     let (h, l) = both (tick (d .period) && leZ (pos 0) (d .kind) && leZ (d .kind) (pos 1)) (grade.inLimits (d .level)) h in
     let (h, _) = both (tick (d .period) && leZ (pos 0) (d .kind)) (leZ (d .kind) (pos 1)) h in
     let (t, _) = both (tick (d .period)) (leZ (pos 0) (d .kind)) h in
-    record { period = tick-within (d .period) t; above = not-most (d .period) b; level = record { passed = l }; fits = compiled-fits (d .level) (record { passed = l }) p }
+    record { period = tick-within (d .period) t; above = not-most (d .period) b; level = record { passed = l }; apart = p; fits = compiled-fits (d .level) (record { passed = l }) p }
 
 -- ---- and what no refusal leaves
 pub accepted : (d : Description) → refusal d ≡ 0 → Passed d × SlopeFits (slopeBound (compiled (d .level)))

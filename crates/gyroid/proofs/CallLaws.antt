@@ -13,11 +13,15 @@ use Rattle.interval.specs.Interval.{point}
 use Rattle.interval.specs.Encloses.{Small}
 use Rattle.interval.proofs.Small.{small-between}
 use Rattle.interval.proofs.DoubleSizes.{nearest-small}
-use Rattle.grade.specs.Grade.{ticks}
-use Rattle.grade.specs.Exact.{compiled}
+use Rattle.grade.specs.declared.PieceAnswer.{PieceAnswer}
+use Rattle.grade.specs.Grade.{Point, ticks}
+use Rattle.grade.specs.Exact.{compiled, exactPiece}
+use Rattle.grade.specs.Holds.{Inside, SaysLevel}
+use Rattle.grade.specs.Said.{found}
 use Rattle.grade.specs.Refusals.{refused, _orElse_, above}
 use Rattle.grade.specs.Fits.{Within3}
 use Rattle.grade.proofs.Entries.{both, ticks-within}
+use Rattle.grade.proofs.PieceLaws.{exact-piece-says}
 use Rattle.grade.proofs.RefusalLaws.{none-first, none-last, kept, neither}
 use Rattle.gyroid.specs.declared.Description.{Description}
 use Rattle.gyroid.specs.declared.Compiled.{Compiled}
@@ -26,7 +30,7 @@ use Rattle.gyroid.specs.Refusals.{refusal, between, farthest, allOrdered
 use Rattle.gyroid.specs.Leaf.{leaf, certified}
 use Rattle.gyroid.specs.Fast.{pointAt}
 use Rattle.gyroid.specs.Fits.{FastFits, Near}
-use Rattle.gyroid.specs.Calls.{pointBox, levelPieceRefusal}
+use Rattle.gyroid.specs.Calls.{levelPieceSaid, pieceAnswer, pieceValues, pointBox, levelPieceRefusal, PieceSays}
 use Rattle.gyroid.proofs.AcceptedLaws.{Passed, accepted}
 
 -- ---- what `certified` gave
@@ -58,6 +62,17 @@ piece-accepted d lo hi e =
     let (b, _) = neither (refusal d) (refused (above lo hi) 6) e in
     let (l, h) = both (ticks lo) (ticks hi) (kept (ticks lo && ticks hi) a) in
     record { description = b; low = ticks-within lo l; high = ticks-within hi h }
+
+pub piece-said : (a : PieceAnswer) → levelPieceSaid (pieceAnswer a) ≡ found (pieceValues a)
+piece-said (PieceAnswer.Found p) = refl
+piece-said PieceAnswer.None = refl
+
+pub piece-says : (d : Description) (lo hi : List ℤ) → refusal d ≡ 0 → PieceSays d lo hi (pieceAnswer (exactPiece (compiled (d .level)) lo hi))
+piece-says d lo hi e = go (exactPiece (compiled (d .level)) lo hi) (exact-piece-says (d .level) lo hi (accepted d e .0 .apart))
+  where
+    go : (a : PieceAnswer) → ((q : Point) → Inside lo hi q → SaysLevel (d .level) q a) → PieceSays d lo hi (pieceAnswer a)
+    go (PieceAnswer.Found p) f = f
+    go PieceAnswer.None f = tt
 
 -- ---- what `fast_distance` has tested
 turns-small : (d : Description) → Passed d → Small 10 (leaf d .«fast_turns»)

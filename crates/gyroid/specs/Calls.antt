@@ -14,11 +14,12 @@ use Rattle.grade.specs.declared.Piece.{Piece}
 use Rattle.grade.specs.declared.Piece.the-variants.{Start, Ramp, End}
 use Rattle.grade.specs.declared.PieceAnswer.{PieceAnswer}
 use Rattle.grade.specs.declared.Planes.{Planes}
-use Rattle.grade.specs.Grade.{ticks}
+use Rattle.grade.specs.Grade.{Point, ticks}
 use Rattle.grade.specs.Exact.{compiled, exactPiece}
 use Rattle.grade.specs.Certified.{planes}
 use Rattle.grade.specs.Fast.{fast}
 use Rattle.grade.specs.Refusals.{refused, _orElse_, above}
+use Rattle.grade.specs.Holds as grade
 use Rattle.grade.specs.Said.{Said, found, refusing, answered}
 use Rattle.gyroid.specs.declared.Description.{Description}
 use Rattle.gyroid.specs.declared.Jet.{Jet}
@@ -91,6 +92,10 @@ abbrev pub residualValues : Residual → List Float
 residualValues (Enclosure lo hi) = lo ∷ hi ∷ []
 residualValues None = []
 
+abbrev pub pieceAnswer : PieceAnswer → LevelPieceAnswer
+pieceAnswer (PieceAnswer.Found p) = LevelPieceAnswer.Found p
+pieceAnswer PieceAnswer.None = LevelPieceAnswer.None
+
 abbrev pub pieceValues : PieceAnswer → List ℕ
 pieceValues (PieceAnswer.Found p) = pieceNumber p ∷ []
 pieceValues PieceAnswer.None = []
@@ -133,6 +138,12 @@ levelPieceRefusal d lo hi = refused (not (ticks lo && ticks hi)) 1 orElse refusa
 
 unfoldable pub levelPieceCall : Description → List ℤ → List ℤ → Said ℕ
 levelPieceCall d lo hi = answered (levelPieceRefusal d lo hi) (pieceValues (exactPiece (compiled (d .level)) lo hi))
+
+-- of an accepted call a found piece says what the level is at every rational point of the box
+abbrev pub PieceSays : Description → List ℤ → List ℤ → LevelPieceAnswer → Type 0
+PieceSays d lo hi (LevelPieceAnswer.Refused n) = Unit {0}
+PieceSays d lo hi (LevelPieceAnswer.Found p) = (q : Point) → grade.Inside lo hi q → grade.SaysLevel (d .level) q (PieceAnswer.Found p)
+PieceSays d lo hi LevelPieceAnswer.None = Unit {0}
 
 -- ---- over a box of doubles
 unfoldable pub jetCall : Description → List Interval → Jet

@@ -1,7 +1,7 @@
 // What the layer answers, as the public calls answer it.
 ghost use mathlib.Core.Path.{_≡_};
 ghost use Rattle.grade.specs.Said.{found};
-ghost use Rattle.gyroid.specs.Calls.{enclosureSaid, levelPieceSaid, truthSaid, planesSaid, ends, residualValues, pieceValues, planesValues, saturatedBy};
+ghost use Rattle.gyroid.specs.Calls.{enclosureSaid, truthSaid, planesSaid, ends, residualValues, pieceAnswer, planesValues, saturatedBy};
 use crate::EnclosureAnswer;
 use crate::LevelPieceAnswer;
 use crate::PlanesAnswer;
@@ -30,7 +30,7 @@ impl Residual {
 }
 
 pub fn piece_answer(p: PieceAnswer) -> LevelPieceAnswer
-    ensures { λ r. ⌜ levelPieceSaid r ≡ found (pieceValues p) ⌝ }
+    ensures { λ r. ⌜ r ≡ pieceAnswer p ⌝ }
 {
     match p {
         PieceAnswer::Found(piece) => LevelPieceAnswer::Found(piece),

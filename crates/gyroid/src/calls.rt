@@ -1,7 +1,7 @@
 // The public calls: each takes a description, refuses by document 01's numbers and answers any input. Each compiles its description; none
 // keeps anything.
 ghost use mathlib.Core.Path.{_≡_};
-ghost use Rattle.gyroid.specs.Calls.{enclosureSaid, stateSaid, levelPieceSaid, truthSaid, planesSaid, doubleSaid, gradedCall, saturatedCall, planesCall, curvatureCall, lipschitzCall, levelPieceCall, jetCall, affineJetCall, derivativesCall, residualCall, affineResidualCall, boxStateCall, facetResidualCall, fastCall, fastDistanceCall};
+ghost use Rattle.gyroid.specs.Calls.{enclosureSaid, stateSaid, levelPieceSaid, truthSaid, planesSaid, doubleSaid, gradedCall, saturatedCall, planesCall, curvatureCall, lipschitzCall, levelPieceCall, PieceSays, jetCall, affineJetCall, derivativesCall, residualCall, affineResidualCall, boxStateCall, facetResidualCall, fastCall, fastDistanceCall};
 use crate::Derivatives;
 use crate::Description;
 use crate::DoubleAnswer;
@@ -98,7 +98,8 @@ pub fn lipschitz(description: Description) -> EnclosureAnswer
 
 // The exact piece of the level over a box of whole ticks.
 pub fn level_piece(description: Description, lo: [i64; 3], hi: [i64; 3]) -> LevelPieceAnswer
-    ensures { λ r. ⌜ levelPieceSaid r ≡ levelPieceCall description lo hi ⌝ }
+    ensures answer { λ r. ⌜ levelPieceSaid r ≡ levelPieceCall description lo hi ⌝ }
+    ensures says { λ r. ⌜ PieceSays description lo hi r ⌝ }
 {
     let made = Gyroid::certified(description);
     let limits = refused(!(ticks(lo) & ticks(hi)), 1);

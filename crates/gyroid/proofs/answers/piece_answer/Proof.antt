@@ -1,4 +1,4 @@
--- By the case. Assumes nothing.
+-- By the definition, from the calls. Assumes nothing.
 use borrow.Author.Needs.{needs}
 use Rattle.gyroid.proofs.answers.piece_answer.Statement.{statement}
 use Rattle.gyroid.proofs.answers.piece_answer.Tie as tie

@@ -1,4 +1,4 @@
--- By the case; the positions are read back from their bits. Assumes nothing.
+-- By the definition, from the calls. Assumes nothing.
 use borrow.Author.Needs.{needs}
 use Rattle.exact.proofs.Signed.{back}
 use Rattle.gyroid.proofs.answers.planes_answer.Statement.{statement}

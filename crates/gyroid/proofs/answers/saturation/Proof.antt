@@ -1,4 +1,4 @@
--- By the kind and the level. Assumes nothing.
+-- By the definition, from the calls. Assumes nothing.
 use borrow.Author.Needs.{needs}
 use Rattle.exact.proofs.Signed.{back}
 use Rattle.gyroid.proofs.answers.saturation.Statement.{statement}

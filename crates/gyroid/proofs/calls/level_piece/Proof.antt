@@ -2,13 +2,13 @@
 use mathlib.Core.Path.{sym, ap, ap₂, _∙_, subst⁻¹}
 use mathlib.Core.Bool.{not, _&&_}
 use borrow.Author.Needs.{needs}
-use Rattle.grade.specs.Exact.{exactPiece}
+use Rattle.grade.specs.Exact.{compiled, exactPiece}
 use Rattle.grade.specs.Refusals.{refused, _orElse_}
 use Rattle.grade.specs.Fits.{DefFits}
-use Rattle.grade.specs.Said.{found, refusing}
+use Rattle.grade.specs.Said.{refusing}
 use Rattle.grade.proofs.RefusalLaws.{refused-is, answer-is}
-use Rattle.gyroid.specs.Calls.{pieceValues, levelPieceRefusal, levelPieceCall}
-use Rattle.gyroid.proofs.CallLaws.{number-is, grade-is, piece-accepted}
+use Rattle.gyroid.specs.Calls.{levelPieceSaid, pieceAnswer, levelPieceRefusal, levelPieceCall, PieceSays}
+use Rattle.gyroid.proofs.CallLaws.{number-is, grade-is, piece-accepted, piece-said, piece-says}
 use Rattle.gyroid.proofs.AcceptedLaws.{accepted}
 use Rattle.gyroid.proofs.calls.level_piece.Statement.{statement}
 use Rattle.gyroid.proofs.calls.level_piece.Tie as tie
@@ -28,7 +28,7 @@ returns c =
     let c9 = c8 .before in
     let d = c9 .args .description in
     let n = c .before .or-else2 .ensures ∙ ap₂ _orElse_ (c5 .refused .ensures ∙ (λ k. refused (not (c7 .ticks .ensures k && c6 .ticks2 .ensures k)) 1)) (c .before .before .or-else .ensures ∙ ap₂ _orElse_ (number-is d (c8 .certified .ensures)) (c3 .refused2 .ensures ∙ (λ k. refused (c4 .above .ensures k) 6))) in
-    refused-is (λ k. refusing k) _ n (c .if1 .taken)
+    (refused-is (λ k. refusing k) _ n (c .if1 .taken), tt)
 
 exact-piece-requires : tie.Need-exact-piece-requires
 unfolding levelPieceRefusal
@@ -61,10 +61,13 @@ returns-2 c =
     let c12 = c11 .before in
     let c13 = c12 .before in
     let d = c13 .args .description in
+    let lo = c13 .args .lo in
+    let hi = c13 .args .hi in
     let n = c5 .or-else2 .ensures ∙ ap₂ _orElse_ (c9 .refused .ensures ∙ (λ k. refused (not (c11 .ticks .ensures k && c10 .ticks2 .ensures k)) 1)) (c6 .or-else .ensures ∙ ap₂ _orElse_ (number-is d (c12 .certified .ensures)) (c7 .refused2 .ensures ∙ (λ k. refused (c8 .above .ensures k) 6))) in
-    let p = piece-accepted d (c13 .args .lo) (c13 .args .hi) (sym n ∙ c4 .if1 .left) in
+    let p = piece-accepted d lo hi (sym n ∙ c4 .if1 .left) in
     let g = grade-is d (c12 .certified .ensures) (p .description) in
-    answer-is _ n (c4 .if1 .left) (c .piece-answer .ensures ∙ ap (λ a. found (pieceValues a)) (c .before .exact-piece .ensures ∙ ap (λ h. exactPiece h (c13 .args .lo) (c13 .args .hi)) g))
+    let e = c .piece-answer .ensures ∙ ap pieceAnswer (c .before .exact-piece .ensures ∙ ap (λ h. exactPiece h lo hi) g) in
+    (answer-is _ n (c4 .if1 .left) (ap levelPieceSaid e ∙ piece-said (exactPiece (compiled (d .level)) lo hi)), subst⁻¹ (PieceSays d lo hi) e (piece-says d lo hi (p .description)))
 
 pub level-piece-spec : {M : Type 1} → statement M
 level-piece-spec =
