@@ -52,6 +52,18 @@ below g = go (g .kind)
 pub axis-one : (g : GradeDef) {a : Axis} {i : ℕ} → a ≡ defAxis g → a ≡ One i → i < 3
 axis-one g p q = subst Below (sym p ∙ q) (below g)
 
+abbrev pub PlanesBelow : Planes → Type 0
+PlanesBelow (Planes.Found i from to) = i < 3
+PlanesBelow Planes.None = Unit {0}
+
+pub planes-below : (g : GradeDef) → PlanesBelow (planes g)
+unfolding planes
+planes-below g = go (defAxis g) (below g)
+  where
+    go : (a : Axis) → Below a → PlanesBelow (planesOn a (g .linear))
+    go (One i) h = h
+    go Axis.None h = tt
+
 pub within-at : {n : ℕ} {v : List ℤ} → Within3 n v → (i : ℕ) → i < 3 → Within n (at v i)
 within-at h zero l = h .x
 within-at h (suc zero) l = h .y

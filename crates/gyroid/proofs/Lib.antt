@@ -4,6 +4,8 @@ pub mod AcceptedLaws
 pub mod LipschitzLaws
 -- boxes with an infinite end
 pub mod InfiniteLaws
+-- the axis that `planes` answers
+pub mod PlanesLaws
 -- document 01's marked values
 pub mod MarkedValues
 -- what the proofs of the code cite

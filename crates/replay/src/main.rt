@@ -1,249 +1,36 @@
-// Replays the list of the interval layer's answers, which were worked out elsewhere, and prints how many were seen and how many differ.
-// A record that differs is named by its place, counted from 0. A record is seven words of eight bytes, little endian: the operation,
-// four words that it takes, and the two ends of its answer. Doubles stand by their bits; a number that is no double stands as 2^53
-// more than itself.
-ghost use Prim.Native.Nat.{_+_, _^_, _≤_};
-ghost use lib.IntN.{natAbs};
-ghost use lib.ListN.{length};
-use interval::Interval;
-use interval::floor::floor;
-use interval::floor::modulo_four;
-use interval::floor::quarter_number;
-use interval::nearest::nearest;
-use interval::nearest::whole;
-use interval::step::next_down;
-use interval::step::next_up;
-use libc::STDOUT_FILENO;
+// Replays lists of answers that were worked out elsewhere, and prints of each list how many answers were seen and how many differ.
+mod words; // what eight bytes stand for
+mod tally; // what was seen
+mod intervals; // the interval layer's list
+mod calls; // the public calls' list
 
-const OFFSET: u64 = 0x20_0000_0000_0000;
-
-fn wide(x: u8) -> u64 {
-    x as u64
-}
-
-// The eight bytes at `at`.
-fn word(s: &[u8], at: usize) -> u64
-    requires { ⌜ at + 8 ≤ length (now s) ⌝ }
-{
-    wide(s[at])
-        | wide(s[at + 1]) << 8
-        | wide(s[at + 2]) << 16
-        | wide(s[at + 3]) << 24
-        | wide(s[at + 4]) << 32
-        | wide(s[at + 5]) << 40
-        | wide(s[at + 6]) << 48
-        | wide(s[at + 7]) << 56
-}
-
-// The double with these bits; every NaN pattern is one NaN.
-fn float_of(n: u64) -> f64 {
-    let m = n % 0x8000_0000_0000_0000;
-    if m > 0x7ff0_0000_0000_0000 {
-        return 0.0 / 0.0;
-    }
-    f64::from_bits(n)
-}
-
-// n less 2^53, or 0 where that is beyond 2^53 in size.
-fn number(n: u64) -> i64
-    ensures { λ r. ⌜ natAbs r ≤ 2 ^ 53 ⌝ }
-{
-    if n <= 0x40_0000_0000_0000 {
-        return n as i64 - 0x20_0000_0000_0000;
-    }
-    0
-}
-
-// Answers that have a `requires` are given where it holds, and no interval at all elsewhere.
-fn none() -> Interval {
-    Interval::point(0.0 / 0.0)
-}
-
-fn fraction(n: u64, d: u64, stepped: bool) -> Interval {
-    if d == 0 {
-        return none();
-    }
-    if OFFSET < d {
-        return none();
-    }
-    let z = number(n);
-    if stepped {
-        return Interval::from_rational(z, d);
-    }
-    Interval::point(nearest(z, d))
-}
-
-fn floor_of(y: f64) -> Interval {
-    if -9007199254740992.0 <= y {
-        if y <= 9007199254740992.0 {
-            return Interval::point(whole(floor(y)));
-        }
-    }
-    none()
-}
-
-fn quarter_of(t: f64) -> Interval {
-    if -1125899906842624.0 <= t {
-        if t <= 1125899906842624.0 {
-            return Interval::point(whole(quarter_number(t)));
-        }
-    }
-    none()
-}
-
-fn remainder_of(n: u64) -> Interval {
-    let r = modulo_four(number(n));
-    if r < 4 {
-        return Interval::point(whole(r as i64));
-    }
-    none()
-}
-
-fn element(s: [Interval; 9], i: u64) -> Interval {
-    if i < 9 {
-        return s[i as usize];
-    }
-    none()
-}
-
-// What the operations on two intervals answer.
-fn pair(op: u64, a: Interval, b: Interval) -> Interval {
-    match op {
-        0 => a.add(b),
-        1 => a.sub(b),
-        2 => a.mul(b),
-        3 => a.div(b),
-        4 => a.neg(),
-        5 => a.square(),
-        6 => Interval::point(a.mid()),
-        7 => Interval::point(a.magnitude()),
-        8 => a.imin(b),
-        9 => a.imax(b),
-        10 => a.clamp01(),
-        _ => Interval::new(next_down(a.lo), next_up(a.hi)),
-    }
-}
-
-// And the others.
-fn single(op: u64, x: u64, y: u64) -> Interval {
-    match op {
-        12 => fraction(x, y, true),
-        13 => fraction(x, y, false),
-        14 => floor_of(float_of(x)),
-        15 => quarter_of(float_of(x)),
-        16 => remainder_of(x),
-        17 => element(Interval::sine(), x),
-        18 => element(Interval::cosine(), x),
-        19 => Interval::new(Interval::tail_sine(), Interval::tail_cosine()),
-        _ => Interval::two_pi(),
-    }
-}
-
-// Zeros of either sign are alike, and so are all NaNs.
-fn same(x: f64, y: f64) -> bool {
-    if x != x { y != y } else { x == y }
-}
-
-// Whether the answer to the record at `at` is the one that stands there.
-fn matches(s: &[u8], at: usize) -> bool
-    requires { ⌜ at + 56 ≤ length (now s) ⌝ }
-{
-    let op = word(s, at);
-    let x = word(s, at + 8);
-    let y = word(s, at + 16);
-    let z = word(s, at + 24);
-    let w = word(s, at + 32);
-    let lo = float_of(word(s, at + 40));
-    let hi = float_of(word(s, at + 48));
-    let r = if op < 12 {
-        pair(
-            op,
-            Interval::new(float_of(x), float_of(y)),
-            Interval::new(float_of(z), float_of(w)),
-        )
-    } else {
-        single(op, x, y)
-    };
-    same(r.lo, lo) && same(r.hi, hi)
-}
-
-struct Tally {
-    seen: u64,
-    bad: u64,
-    more: bool,
-}
-
-// One more record seen.
-fn counted(t: Tally, good: bool) -> Tally {
-    let next = std::num::wrapping_add_u64(t.seen, 1);
-    if good {
-        return Tally {
-            seen: next,
-            bad: t.bad,
-            more: t.more,
-        };
-    }
-    io::write_all(STDOUT_FILENO, b"differs: ");
-    io::print_decimal(STDOUT_FILENO, t.seen);
-    io::write_all(STDOUT_FILENO, b"\n");
-    Tally {
-        seen: next,
-        bad: std::num::wrapping_add_u64(t.bad, 1),
-        more: t.more,
-    }
-}
-
-// The records of s, each of 56 bytes.
-fn block(s: &[u8], t: Tally) -> Tally {
-    let mut u = t;
-    let mut at: usize = 0;
-    while 56 <= s.len() - at {
-        u = counted(u, matches(s, at));
-        at += 56;
-    }
-    u
-}
-
-fn some(fd: i32, t: Tally) -> Tally {
-    let mut buf = [0u8; 57344];
-    let n = io::read_full(fd, &mut buf);
-    if n == 0 {
-        return Tally {
-            seen: t.seen,
-            bad: t.bad,
-            more: false,
-        };
-    }
-    block(&buf[..n], t)
-}
-
-fn all(fd: i32, t: Tally) -> Tally {
-    let mut turns = u64::MAX;
-    let mut u = t;
-    while turns > 0 && u.more {
-        u = some(fd, u);
-        turns -= 1;
-    }
-    u
-}
-
-fn main() {
+// The list of the interval layer.
+fn replay_intervals() {
     let path = b"interval";
     let fd = os::open_read(path);
     if fd < 0 {
         os::fail(path);
         return;
     }
-    let none = Tally {
-        seen: 0,
-        bad: 0,
-        more: true,
-    };
-    let t = all(fd, none);
+    let t = intervals::all(fd);
     libc::close(fd);
-    io::write_all(STDOUT_FILENO, b"interval: ");
-    io::print_decimal(STDOUT_FILENO, t.seen);
-    io::write_all(STDOUT_FILENO, b" answers, ");
-    io::print_decimal(STDOUT_FILENO, t.bad);
-    io::write_all(STDOUT_FILENO, b" differ\n");
+    t.print(path);
+}
+
+// The list of the public calls.
+fn replay_calls() {
+    let path = b"calls";
+    let fd = os::open_read(path);
+    if fd < 0 {
+        os::fail(path);
+        return;
+    }
+    let t = calls::all(fd);
+    libc::close(fd);
+    t.print(path);
+}
+
+fn main() {
+    replay_intervals();
+    replay_calls();
 }

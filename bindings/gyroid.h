@@ -1,0 +1,111 @@
+/* The sixteen calls of the static library libcapi.a, which `rt staticlib capi` makes in target/staticlib.
+ *
+ * Every slice is a pointer and a number of entries. The caller lends the slices for the time of the call; none is kept, nothing is
+ * allocated and there is no state, so calls from several threads do not meet.
+ *
+ * Every call answers a status:
+ *
+ *   GYROID_FOUND   `out` holds the call's values, from its first entry on
+ *   1 to 14        a refusal, by document 01's number
+ *   GYROID_NONE    nothing found
+ *   GYROID_LENGTH  a lent slice has the wrong length: an argument that is not of its length, or an `out` shorter than the call's
+ *                  values. Tested before all else.
+ *
+ * On any status but GYROID_FOUND nothing is written; on GYROID_FOUND nothing past the call's values.
+ *
+ * A description is 18 whole numbers, in ticks of 1/1024 mm and level counts of 1/1024:
+ *
+ *   period, kind (0 network, 1 sheet), level kind (0 constant, 1 linear, 2 distance),
+ *   from x y z, to x y z, start, end, rotation w x y z, translation x y z
+ *
+ * A description of another length is refused by 1.
+ *
+ * `bounds` is a box of whole ticks, three lows and then three highs. `world` is a box of doubles in millimetres: the low and the high
+ * end of x, then of y, then of z. An interval in `out` is its low and its high end.
+ */
+#ifndef GYROID_H
+#define GYROID_H
+
+#include <stddef.h>
+#include <stdint.h>
+
+#ifdef __cplusplus
+extern "C" {
+#endif
+
+enum { GYROID_FOUND = 0, GYROID_NONE = 100, GYROID_LENGTH = 101 };
+enum { GYROID_DESCRIPTION = 18 };
+enum { GYROID_START = 0, GYROID_RAMP = 1, GYROID_END = 2 };
+enum { GYROID_INSIDE = 1, GYROID_OUTSIDE = 2, GYROID_UNSETTLED = 3 };
+
+/* The exact range of the level over `bounds` (6 entries). `out` (3): the numerators of the least and of the greatest level and their
+ * denominator, in level counts and not reduced. It reads the level's entries alone, so it refuses by 1, 6, 7 and 8 only. Never
+ * none. */
+uint32_t gyroid_grade_range(const int64_t *description, size_t description_length, const int64_t *bounds, size_t bounds_length,
+                            int64_t *out, size_t out_length);
+
+/* The piece of the level that holds over `bounds` (6 entries). `out` (1): 0 start, 1 ramp, 2 end. None across an anchor plane. */
+uint32_t gyroid_level_piece(const int64_t *description, size_t description_length, const int64_t *bounds, size_t bounds_length,
+                            int64_t *out, size_t out_length);
+
+/* g and its gradient over a `world` (6 entries) small enough to be a rounded point. `out` (8): four intervals, the value and the
+ * gradient's x, y, z. None where the box is too wide for the reduction. */
+uint32_t gyroid_jet(const int64_t *description, size_t description_length, const double *world, size_t world_length,
+                    double *out, size_t out_length);
+
+/* As gyroid_jet, less the level's affine extension and its gradient. */
+uint32_t gyroid_affine_jet(const int64_t *description, size_t description_length, const double *world, size_t world_length,
+                           double *out, size_t out_length);
+
+/* The gradient of g less the level and the Hessian of g over a `world` (6 entries) on which the level is `piece` (0 start, 1 ramp,
+ * 2 end). `out` (24): the gradient's three intervals, then the Hessian's nine, row by row. A piece above 2 is refused by 1. */
+uint32_t gyroid_derivatives(const int64_t *description, size_t description_length, const double *world, size_t world_length,
+                            uint32_t piece, double *out, size_t out_length);
+
+/* g less the level over a `world` (6 entries). `out` (2): an interval. None over an infinite end, and beyond the reduction. */
+uint32_t gyroid_residual(const int64_t *description, size_t description_length, const double *world, size_t world_length,
+                         double *out, size_t out_length);
+
+/* As gyroid_residual, with the level's affine extension in the level's place. */
+uint32_t gyroid_affine_residual(const int64_t *description, size_t description_length, const double *world, size_t world_length,
+                                double *out, size_t out_length);
+
+/* The mark of a `world` (6 entries). `out` (1): 1 inside, 2 outside, 3 unsettled. Never none. */
+uint32_t gyroid_box_state(const int64_t *description, size_t description_length, const double *world, size_t world_length,
+                          int64_t *out, size_t out_length);
+
+/* g less the level's affine extension over a triangle; `corners` has 18 entries, each corner as a `world`. `out` (2): an interval,
+ * which promises no enclosure: its widening is rounded to nearest. */
+uint32_t gyroid_facet_residual(const int64_t *description, size_t description_length, const double *corners, size_t corners_length,
+                               double *out, size_t out_length);
+
+/* An upper bound of the Hessian's norm. `out` (2): an interval. Never none. */
+uint32_t gyroid_curvature(const int64_t *description, size_t description_length, double *out, size_t out_length);
+
+/* An upper bound of the size of the gradient of g less the level, per millimetre. `out` (2): an interval. Never none. */
+uint32_t gyroid_lipschitz(const int64_t *description, size_t description_length, double *out, size_t out_length);
+
+/* `out` (1): 1 where a constant level is at least 3/2, so that every point is in the network, 0 where it is at most -3/2. Otherwise
+ * none. */
+uint32_t gyroid_saturated(const int64_t *description, size_t description_length, int64_t *out, size_t out_length);
+
+/* `out` (1): 1 where the level is a ramp, 0 where it is constant. Never none. */
+uint32_t gyroid_graded(const int64_t *description, size_t description_length, int64_t *out, size_t out_length);
+
+/* The anchor planes of a ramp. `out` (3): the axis (0, 1, 2), then the positions of `from` and `to` in ticks. None for a constant. */
+uint32_t gyroid_planes(const int64_t *description, size_t description_length, int64_t *out, size_t out_length);
+
+/* g less the level over the Lipschitz bound at a `point` (3 entries, millimetres), in doubles: tentative, no enclosure. `out` (1).
+ * Never none. */
+uint32_t gyroid_fast_distance(const int64_t *description, size_t description_length, const double *point, size_t point_length,
+                              double *out, size_t out_length);
+
+/* The level at a `point` (3 entries, millimetres), in doubles: tentative, no enclosure. `out` (1). Never none. */
+uint32_t gyroid_fast(const int64_t *description, size_t description_length, const double *point, size_t point_length,
+                     double *out, size_t out_length);
+
+#ifdef __cplusplus
+}
+#endif
+
+#endif

@@ -1,0 +1,73 @@
+//! What a planner enters: the 18 whole numbers of a description, by name.
+
+/// A graded gyroid in whole ticks (1/1024 mm) and level counts (1/1024). Any number may stand in any entry: the calls refuse what
+/// is outside document 01's limits, in unused entries too.
+#[derive(Clone, Copy, Debug, PartialEq, Eq, Hash)]
+pub struct Description {
+    /// The period in ticks.
+    pub period: i64,
+    /// 0 network, 1 sheet.
+    pub kind: i64,
+    /// 0 constant, 1 linear, 2 distance.
+    pub level_kind: i64,
+    /// The anchor where a linear level is `start`, in ticks.
+    pub from: [i64; 3],
+    /// The anchor where a linear level is `end`, in ticks.
+    pub to: [i64; 3],
+    /// The level at `from`, or the constant level, in level counts.
+    pub start: i64,
+    /// The level at `to`, in level counts.
+    pub end: i64,
+    /// The frame's rotation: w, x, y, z. The part frame has w above 0 and the others 0.
+    pub rotation: [i64; 4],
+    /// The frame's translation. The part frame has none.
+    pub translation: [i64; 3],
+}
+
+impl Description {
+    /// A network in the part frame with a constant level.
+    pub fn constant(period: i64, level: i64) -> Self {
+        Self {
+            period,
+            kind: 0,
+            level_kind: 0,
+            from: [0; 3],
+            to: [0; 3],
+            start: level,
+            end: 0,
+            rotation: [1, 0, 0, 0],
+            translation: [0; 3],
+        }
+    }
+
+    /// A network in the part frame whose level goes from `start` at `from` to `end` at `to`, and is held beyond.
+    pub fn linear(period: i64, from: [i64; 3], to: [i64; 3], start: i64, end: i64) -> Self {
+        Self { level_kind: 1, from, to, end, ..Self::constant(period, start) }
+    }
+
+    /// The entries in document 01's order.
+    pub fn entries(&self) -> [i64; 18] {
+        let [fx, fy, fz] = self.from;
+        let [tx, ty, tz] = self.to;
+        let [w, x, y, z] = self.rotation;
+        let [mx, my, mz] = self.translation;
+        let Self { period, kind, level_kind, start, end, .. } = *self;
+        [period, kind, level_kind, fx, fy, fz, tx, ty, tz, start, end, w, x, y, z, mx, my, mz]
+    }
+
+    /// The description with these entries, in document 01's order.
+    pub fn from_entries(entries: [i64; 18]) -> Self {
+        let [period, kind, level_kind, fx, fy, fz, tx, ty, tz, start, end, w, x, y, z, mx, my, mz] = entries;
+        Self {
+            period,
+            kind,
+            level_kind,
+            from: [fx, fy, fz],
+            to: [tx, ty, tz],
+            start,
+            end,
+            rotation: [w, x, y, z],
+            translation: [mx, my, mz],
+        }
+    }
+}

@@ -1,0 +1,54 @@
+//! Lends slices to the static library and reads its status. All that is unsafe in this crate stands here.
+
+use crate::raw::{self, FOUND, NONE, OnDescription, OnSlice};
+use crate::{Description, Refusal};
+
+/// The values of a call, or none.
+pub(crate) type Answer<T, const N: usize> = Result<Option<[T; N]>, Refusal>;
+
+fn read<T, const N: usize>(status: u32, out: [T; N]) -> Answer<T, N> {
+    match status {
+        FOUND => Ok(Some(out)),
+        NONE => Ok(None),
+        1..=14 => Err(Refusal(status)),
+        _ => panic!("status {status}, which no call answers to slices of the right lengths"),
+    }
+}
+
+/// What a call that never finds nothing answers.
+pub(crate) fn always<T, const N: usize>(answer: Answer<T, N>) -> Result<[T; N], Refusal> {
+    answer.map(|found| found.expect("this call always finds its values"))
+}
+
+pub(crate) fn on_description<T: Copy + Default, const N: usize>(
+    call: OnDescription<T>,
+    description: &Description,
+) -> Answer<T, N> {
+    let d = description.entries();
+    let mut out = [T::default(); N];
+    // Both slices are arrays of their own, alive for the call.
+    let status = unsafe { call(d.as_ptr(), d.len(), out.as_mut_ptr(), N) };
+    read(status, out)
+}
+
+pub(crate) fn on_slice<A, T: Copy + Default, const N: usize>(
+    call: OnSlice<A, T>,
+    description: &Description,
+    lent: &[A],
+) -> Answer<T, N> {
+    let d = description.entries();
+    let mut out = [T::default(); N];
+    // The slices are alive for the call, and `out` is an array of its own.
+    let status = unsafe { call(d.as_ptr(), d.len(), lent.as_ptr(), lent.len(), out.as_mut_ptr(), N) };
+    read(status, out)
+}
+
+pub(crate) fn derivatives(description: &Description, world: &[f64; 6], piece: u32) -> Answer<f64, 24> {
+    let d = description.entries();
+    let mut out = [0.0; 24];
+    // As above.
+    let status = unsafe {
+        raw::gyroid_derivatives(d.as_ptr(), d.len(), world.as_ptr(), world.len(), piece, out.as_mut_ptr(), out.len())
+    };
+    read(status, out)
+}

@@ -1,0 +1,39 @@
+//! The evaluation behind the marks of graded gyroid cells, proved in Rattle, for Rust programs.
+//!
+//! A core is a [`Description`] in whole ticks (1/1024 mm) and level counts (1/1024). Each call takes a description and compiles
+//! it; nothing is kept between calls, nothing is allocated, and every call ends. What a call cannot work on it refuses by a number:
+//! [`Refusal`]. Where a call may find nothing, it answers an [`Option`].
+//!
+//! ```
+//! use gyroid_cells::{Description, Interval, State, box_state, residual};
+//!
+//! // A network of period 10 mm at the level 2, and the lower half of a millimetre cube.
+//! let core = Description::constant(10240, 2048);
+//! let world = [Interval::new(0.0, 0.5), Interval::new(0.0, 1.0), Interval::new(0.0, 1.0)];
+//!
+//! assert_eq!(box_state(&core, world), Ok(State::Inside));
+//! let enclosure = residual(&core, world)?.expect("a box this small is within reach");
+//! assert!(enclosure.hi < 0.0);
+//!
+//! // A period of 0 is refused by 2.
+//! let refused = residual(&Description::constant(0, 2048), world).unwrap_err();
+//! assert_eq!(refused.number(), 2);
+//! # Ok::<(), gyroid_cells::Refusal>(())
+//! ```
+//!
+//! The static library is made by `rt staticlib capi` in the project's root; the build runs that command where the library is
+//! missing. `GYROID_ARCHIVE_DIR` names another directory. bindings/gyroid.h has the same calls for C.
+#![no_std]
+#![warn(missing_docs)]
+
+mod calls;
+mod description;
+mod lend;
+pub mod raw;
+mod refusal;
+mod values;
+
+pub use calls::*;
+pub use description::Description;
+pub use refusal::Refusal;
+pub use values::{Bounds, Derivatives, Interval, Jet, Piece, Planes, Range, State};

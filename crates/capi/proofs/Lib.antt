@@ -1,0 +1,2 @@
+-- The archive's laws. Assumes nothing.
+mod LentLaws

@@ -1,0 +1,35 @@
+-- By what the lengths refuse, then by the call and what is left. Assumes nothing.
+use mathlib.Core.Path.{_∙_}
+use borrow.Author.Needs.{needs}
+use Rattle.gyroid.specs.Calls.{facetResidualCall}
+use Rattle.capi.specs.Exports.{facetResidual}
+use Rattle.capi.proofs.LentLaws.{stopped, passed, sized}
+use Rattle.capi.proofs.gyroid_facet_residual.Statement.{statement}
+use Rattle.capi.proofs.gyroid_facet_residual.Tie as tie
+
+returns : tie.Need-returns
+unfolding facetResidual
+returns c = stopped _ _ _ _ (c .before .lengths .ensures) (c .if1 .taken)
+
+describe-requires : tie.Need-describe-requires
+describe-requires c κs = (sized _ _ _ _ _ (c .before .lengths .ensures) (c .if1 .left)) .entries
+
+corners-at-requires : tie.Need-corners-at-requires
+corners-at-requires c κs = (sized _ _ _ _ _ (c .before .before .lengths .ensures) (c .before .if1 .left)) .argument
+
+put-enclosure-requires : tie.Need-put-enclosure-requires
+put-enclosure-requires c κs = (sized _ _ _ _ _ (c .before .before .before .before .before .lengths .ensures) (c .before .before .before .before .if1 .left)) .room
+
+same-length : tie.Need-same-length
+same-length c = search needs
+
+returns-2 : tie.Need-returns-2
+unfolding facetResidual
+returns-2 c = passed _ _ _ _ _ _ _ (c .before .before .before .before .before .before .before .before .lengths .ensures) (c .before .before .before .before .before .before .before .if1 .left)
+    (c .before .before .before .before .facet-residual .ensures ∙ (λ k. facetResidualCall (c .before .before .before .before .before .before .describe .ensures k) (c .before .before .before .before .before .corners-at .ensures k)))
+    (c .before .before .put-enclosure .ensures .0) (c .before .before .put-enclosure .ensures .1)
+
+pub gyroid-facet-residual-spec : {M : Type 1} → statement M
+gyroid-facet-residual-spec =
+    tie.close
+    (tie.spec (λ _ _. tt) returns describe-requires corners-at-requires (λ _ _. tt) put-enclosure-requires same-length returns-2)

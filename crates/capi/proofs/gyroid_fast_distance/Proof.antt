@@ -1,0 +1,35 @@
+-- By what the lengths refuse, then by the call and what is left. Assumes nothing.
+use mathlib.Core.Path.{_∙_}
+use borrow.Author.Needs.{needs}
+use Rattle.gyroid.specs.Calls.{fastDistanceCall}
+use Rattle.capi.specs.Exports.{fastDistance}
+use Rattle.capi.proofs.LentLaws.{stopped, passed, sized}
+use Rattle.capi.proofs.gyroid_fast_distance.Statement.{statement}
+use Rattle.capi.proofs.gyroid_fast_distance.Tie as tie
+
+returns : tie.Need-returns
+unfolding fastDistance
+returns c = stopped _ _ _ _ (c .before .lengths .ensures) (c .if1 .taken)
+
+describe-requires : tie.Need-describe-requires
+describe-requires c κs = (sized _ _ _ _ _ (c .before .lengths .ensures) (c .if1 .left)) .entries
+
+point-at-requires : tie.Need-point-at-requires
+point-at-requires c κs = (sized _ _ _ _ _ (c .before .before .lengths .ensures) (c .before .if1 .left)) .argument
+
+put-double-requires : tie.Need-put-double-requires
+put-double-requires c κs = (sized _ _ _ _ _ (c .before .before .before .before .before .lengths .ensures) (c .before .before .before .before .if1 .left)) .room
+
+same-length : tie.Need-same-length
+same-length c = search needs
+
+returns-2 : tie.Need-returns-2
+unfolding fastDistance
+returns-2 c = passed _ _ _ _ _ _ _ (c .before .before .before .before .before .before .before .before .lengths .ensures) (c .before .before .before .before .before .before .before .if1 .left)
+    (c .before .before .before .before .fast-distance .ensures ∙ (λ k. fastDistanceCall (c .before .before .before .before .before .before .describe .ensures k) (c .before .before .before .before .before .point-at .ensures k)))
+    (c .before .before .put-double .ensures .0) (c .before .before .put-double .ensures .1)
+
+pub gyroid-fast-distance-spec : {M : Type 1} → statement M
+gyroid-fast-distance-spec =
+    tie.close
+    (tie.spec (λ _ _. tt) returns describe-requires point-at-requires (λ _ _. tt) put-double-requires same-length returns-2)

@@ -1,0 +1,32 @@
+-- By what the lengths refuse, then by the call and what is left. Assumes nothing.
+use mathlib.Core.Path.{_∙_, ap}
+use borrow.Author.Needs.{needs}
+use Rattle.gyroid.specs.Calls.{saturatedCall}
+use Rattle.capi.specs.Exports.{saturated, each, bit}
+use Rattle.capi.proofs.LentLaws.{stopped, passed, sized}
+use Rattle.capi.proofs.gyroid_saturated.Statement.{statement}
+use Rattle.capi.proofs.gyroid_saturated.Tie as tie
+
+returns : tie.Need-returns
+unfolding saturated
+returns c = stopped _ _ _ _ (c .before .lengths .ensures) (c .if1 .taken)
+
+describe-requires : tie.Need-describe-requires
+describe-requires c κs = (sized _ _ _ _ _ (c .before .lengths .ensures) (c .if1 .left)) .entries
+
+put-truth-requires : tie.Need-put-truth-requires
+put-truth-requires c κs = (sized _ _ _ _ _ (c .before .before .before .before .lengths .ensures) (c .before .before .before .if1 .left)) .room
+
+same-length : tie.Need-same-length
+same-length c = search needs
+
+returns-2 : tie.Need-returns-2
+unfolding saturated
+returns-2 c = passed _ _ _ _ _ _ _ (c .before .before .before .before .before .before .lengths .ensures) (c .before .before .before .before .before .if1 .left)
+    (ap (each bit) (c .before .before .before .saturated .ensures ∙ (λ k. saturatedCall (c .before .before .before .before .describe .ensures k))))
+    (c .before .put-truth .ensures .0) (c .before .put-truth .ensures .1)
+
+pub gyroid-saturated-spec : {M : Type 1} → statement M
+gyroid-saturated-spec =
+    tie.close
+    (tie.spec (λ _ _. tt) returns describe-requires (λ _ _. tt) put-truth-requires same-length returns-2)

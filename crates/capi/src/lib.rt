@@ -1,0 +1,279 @@
+// The public calls as functions of C, on numbers and lent slices. A description is 18 whole numbers in document 01's order; a box of whole
+// ticks is three lows and three highs; a box of doubles is the low and the high end of each axis; a triangle is three such boxes. Each
+// call returns a status and, where it is 0, leaves its values at the front of `out`; nothing else is written.
+mod lengths; // what the lengths of the lent slices refuse
+mod reading; // what is read from a slice
+mod writing; // what is left in one
+
+ghost use mathlib.Core.Path.{_≡_};
+ghost use lib.ListN.{length};
+ghost use Rattle.capi.specs.Lent.{status, written};
+ghost use Rattle.capi.specs.Exports as exports;
+use crate::lengths::lengths;
+use crate::reading::corners_at;
+use crate::reading::describe;
+use crate::reading::level_of;
+use crate::reading::piece_of;
+use crate::reading::point_at;
+use crate::reading::whole_point;
+use crate::reading::world_at;
+use crate::writing::put_derivatives;
+use crate::writing::put_double;
+use crate::writing::put_enclosure;
+use crate::writing::put_jet;
+use crate::writing::put_piece;
+use crate::writing::put_planes;
+use crate::writing::put_range;
+use crate::writing::put_state;
+use crate::writing::put_truth;
+use grade::range::grade_range;
+use grade::refusals::or_else;
+use grade::refusals::refused;
+use gyroid::calls::affine_jet;
+use gyroid::calls::affine_residual;
+use gyroid::calls::box_state;
+use gyroid::calls::curvature;
+use gyroid::calls::derivatives;
+use gyroid::calls::facet_residual;
+use gyroid::calls::fast;
+use gyroid::calls::fast_distance;
+use gyroid::calls::graded;
+use gyroid::calls::jet;
+use gyroid::calls::level_piece;
+use gyroid::calls::lipschitz;
+use gyroid::calls::planes;
+use gyroid::calls::residual;
+use gyroid::calls::saturated;
+
+// 1 or 0.
+#[no_mangle]
+pub extern "C" fn gyroid_graded(description: &[i64], out: &mut [i64]) -> u32
+    ensures answer { λ r. ⌜ r ≡ status (exports.graded (now (description .entry)) (length (now (out .entry)))) ⌝ }
+    ensures left { λ _. ⌜ now (out .exit) ≡ written (now (out .entry)) (exports.graded (now (description .entry)) (length (now (out .entry)))) ⌝ }
+{
+    let number = lengths(description.len(), 0, 0, out.len(), 1);
+    if number != 0 {
+        return number;
+    }
+    put_truth(graded(describe(description)), out)
+}
+
+// 1 or 0.
+#[no_mangle]
+pub extern "C" fn gyroid_saturated(description: &[i64], out: &mut [i64]) -> u32
+    ensures answer { λ r. ⌜ r ≡ status (exports.saturated (now (description .entry)) (length (now (out .entry)))) ⌝ }
+    ensures left { λ _. ⌜ now (out .exit) ≡ written (now (out .entry)) (exports.saturated (now (description .entry)) (length (now (out .entry)))) ⌝ }
+{
+    let number = lengths(description.len(), 0, 0, out.len(), 1);
+    if number != 0 {
+        return number;
+    }
+    put_truth(saturated(describe(description)), out)
+}
+
+// The axis, then the positions of the anchors in ticks.
+#[no_mangle]
+pub extern "C" fn gyroid_planes(description: &[i64], out: &mut [i64]) -> u32
+    ensures answer { λ r. ⌜ r ≡ status (exports.planes (now (description .entry)) (length (now (out .entry)))) ⌝ }
+    ensures left { λ _. ⌜ now (out .exit) ≡ written (now (out .entry)) (exports.planes (now (description .entry)) (length (now (out .entry)))) ⌝ }
+{
+    let number = lengths(description.len(), 0, 0, out.len(), 3);
+    if number != 0 {
+        return number;
+    }
+    put_planes(planes(describe(description)), out)
+}
+
+#[no_mangle]
+pub extern "C" fn gyroid_curvature(description: &[i64], out: &mut [f64]) -> u32
+    ensures answer { λ r. ⌜ r ≡ status (exports.curvature (now (description .entry)) (length (now (out .entry)))) ⌝ }
+    ensures left { λ _. ⌜ now (out .exit) ≡ written (now (out .entry)) (exports.curvature (now (description .entry)) (length (now (out .entry)))) ⌝ }
+{
+    let number = lengths(description.len(), 0, 0, out.len(), 2);
+    if number != 0 {
+        return number;
+    }
+    put_enclosure(curvature(describe(description)), out)
+}
+
+#[no_mangle]
+pub extern "C" fn gyroid_lipschitz(description: &[i64], out: &mut [f64]) -> u32
+    ensures answer { λ r. ⌜ r ≡ status (exports.lipschitz (now (description .entry)) (length (now (out .entry)))) ⌝ }
+    ensures left { λ _. ⌜ now (out .exit) ≡ written (now (out .entry)) (exports.lipschitz (now (description .entry)) (length (now (out .entry)))) ⌝ }
+{
+    let number = lengths(description.len(), 0, 0, out.len(), 2);
+    if number != 0 {
+        return number;
+    }
+    put_enclosure(lipschitz(describe(description)), out)
+}
+
+// The lower numerator, the higher, and their denominator, in level counts.
+#[no_mangle]
+pub extern "C" fn gyroid_grade_range(description: &[i64], bounds: &[i64], out: &mut [i64]) -> u32
+    ensures answer { λ r. ⌜ r ≡ status (exports.gradeRange (now (description .entry)) (now (bounds .entry)) (length (now (out .entry)))) ⌝ }
+    ensures left { λ _. ⌜ now (out .exit) ≡ written (now (out .entry)) (exports.gradeRange (now (description .entry)) (now (bounds .entry)) (length (now (out .entry)))) ⌝ }
+{
+    let number = lengths(description.len(), bounds.len(), 6, out.len(), 3);
+    if number != 0 {
+        return number;
+    }
+    put_range(
+        grade_range(
+            level_of(description),
+            whole_point(bounds, 0),
+            whole_point(bounds, 3),
+        ),
+        out,
+    )
+}
+
+// 0 Start, 1 Ramp, 2 End.
+#[no_mangle]
+pub extern "C" fn gyroid_level_piece(description: &[i64], bounds: &[i64], out: &mut [i64]) -> u32
+    ensures answer { λ r. ⌜ r ≡ status (exports.levelPiece (now (description .entry)) (now (bounds .entry)) (length (now (out .entry)))) ⌝ }
+    ensures left { λ _. ⌜ now (out .exit) ≡ written (now (out .entry)) (exports.levelPiece (now (description .entry)) (now (bounds .entry)) (length (now (out .entry)))) ⌝ }
+{
+    let number = lengths(description.len(), bounds.len(), 6, out.len(), 1);
+    if number != 0 {
+        return number;
+    }
+    put_piece(
+        level_piece(
+            describe(description),
+            whole_point(bounds, 0),
+            whole_point(bounds, 3),
+        ),
+        out,
+    )
+}
+
+// The value, then the gradient.
+#[no_mangle]
+pub extern "C" fn gyroid_jet(description: &[i64], world: &[f64], out: &mut [f64]) -> u32
+    ensures answer { λ r. ⌜ r ≡ status (exports.jet (now (description .entry)) (now (world .entry)) (length (now (out .entry)))) ⌝ }
+    ensures left { λ _. ⌜ now (out .exit) ≡ written (now (out .entry)) (exports.jet (now (description .entry)) (now (world .entry)) (length (now (out .entry)))) ⌝ }
+{
+    let number = lengths(description.len(), world.len(), 6, out.len(), 8);
+    if number != 0 {
+        return number;
+    }
+    put_jet(jet(describe(description), world_at(world, 0)), out)
+}
+
+#[no_mangle]
+pub extern "C" fn gyroid_affine_jet(description: &[i64], world: &[f64], out: &mut [f64]) -> u32
+    ensures answer { λ r. ⌜ r ≡ status (exports.affineJet (now (description .entry)) (now (world .entry)) (length (now (out .entry)))) ⌝ }
+    ensures left { λ _. ⌜ now (out .exit) ≡ written (now (out .entry)) (exports.affineJet (now (description .entry)) (now (world .entry)) (length (now (out .entry)))) ⌝ }
+{
+    let number = lengths(description.len(), world.len(), 6, out.len(), 8);
+    if number != 0 {
+        return number;
+    }
+    put_jet(affine_jet(describe(description), world_at(world, 0)), out)
+}
+
+// The gradient, then the Hessian row by row. A piece's number above 2 is refused 1.
+#[no_mangle]
+pub extern "C" fn gyroid_derivatives(
+    description: &[i64],
+    world: &[f64],
+    piece: u32,
+    out: &mut [f64],
+) -> u32
+    ensures answer { λ r. ⌜ r ≡ status (exports.derivatives (now (description .entry)) (now (world .entry)) piece (length (now (out .entry)))) ⌝ }
+    ensures left { λ _. ⌜ now (out .exit) ≡ written (now (out .entry)) (exports.derivatives (now (description .entry)) (now (world .entry)) piece (length (now (out .entry)))) ⌝ }
+{
+    let slices = lengths(description.len(), world.len(), 6, out.len(), 24);
+    let number = or_else(slices, refused(piece > 2, 1));
+    if number != 0 {
+        return number;
+    }
+    put_derivatives(
+        derivatives(describe(description), world_at(world, 0), piece_of(piece)),
+        out,
+    )
+}
+
+#[no_mangle]
+pub extern "C" fn gyroid_residual(description: &[i64], world: &[f64], out: &mut [f64]) -> u32
+    ensures answer { λ r. ⌜ r ≡ status (exports.residual (now (description .entry)) (now (world .entry)) (length (now (out .entry)))) ⌝ }
+    ensures left { λ _. ⌜ now (out .exit) ≡ written (now (out .entry)) (exports.residual (now (description .entry)) (now (world .entry)) (length (now (out .entry)))) ⌝ }
+{
+    let number = lengths(description.len(), world.len(), 6, out.len(), 2);
+    if number != 0 {
+        return number;
+    }
+    put_enclosure(residual(describe(description), world_at(world, 0)), out)
+}
+
+#[no_mangle]
+pub extern "C" fn gyroid_affine_residual(description: &[i64], world: &[f64], out: &mut [f64]) -> u32
+    ensures answer { λ r. ⌜ r ≡ status (exports.affineResidual (now (description .entry)) (now (world .entry)) (length (now (out .entry)))) ⌝ }
+    ensures left { λ _. ⌜ now (out .exit) ≡ written (now (out .entry)) (exports.affineResidual (now (description .entry)) (now (world .entry)) (length (now (out .entry)))) ⌝ }
+{
+    let number = lengths(description.len(), world.len(), 6, out.len(), 2);
+    if number != 0 {
+        return number;
+    }
+    put_enclosure(
+        affine_residual(describe(description), world_at(world, 0)),
+        out,
+    )
+}
+
+// 1 inside, 2 outside, 3 unsettled.
+#[no_mangle]
+pub extern "C" fn gyroid_box_state(description: &[i64], world: &[f64], out: &mut [i64]) -> u32
+    ensures answer { λ r. ⌜ r ≡ status (exports.boxState (now (description .entry)) (now (world .entry)) (length (now (out .entry)))) ⌝ }
+    ensures left { λ _. ⌜ now (out .exit) ≡ written (now (out .entry)) (exports.boxState (now (description .entry)) (now (world .entry)) (length (now (out .entry)))) ⌝ }
+{
+    let number = lengths(description.len(), world.len(), 6, out.len(), 1);
+    if number != 0 {
+        return number;
+    }
+    put_state(box_state(describe(description), world_at(world, 0)), out)
+}
+
+#[no_mangle]
+pub extern "C" fn gyroid_facet_residual(
+    description: &[i64],
+    corners: &[f64],
+    out: &mut [f64],
+) -> u32
+    ensures answer { λ r. ⌜ r ≡ status (exports.facetResidual (now (description .entry)) (now (corners .entry)) (length (now (out .entry)))) ⌝ }
+    ensures left { λ _. ⌜ now (out .exit) ≡ written (now (out .entry)) (exports.facetResidual (now (description .entry)) (now (corners .entry)) (length (now (out .entry)))) ⌝ }
+{
+    let number = lengths(description.len(), corners.len(), 18, out.len(), 2);
+    if number != 0 {
+        return number;
+    }
+    put_enclosure(
+        facet_residual(describe(description), corners_at(corners)),
+        out,
+    )
+}
+
+#[no_mangle]
+pub extern "C" fn gyroid_fast(description: &[i64], point: &[f64], out: &mut [f64]) -> u32
+    ensures answer { λ r. ⌜ r ≡ status (exports.fast (now (description .entry)) (now (point .entry)) (length (now (out .entry)))) ⌝ }
+    ensures left { λ _. ⌜ now (out .exit) ≡ written (now (out .entry)) (exports.fast (now (description .entry)) (now (point .entry)) (length (now (out .entry)))) ⌝ }
+{
+    let number = lengths(description.len(), point.len(), 3, out.len(), 1);
+    if number != 0 {
+        return number;
+    }
+    put_double(fast(describe(description), point_at(point)), out)
+}
+
+#[no_mangle]
+pub extern "C" fn gyroid_fast_distance(description: &[i64], point: &[f64], out: &mut [f64]) -> u32
+    ensures answer { λ r. ⌜ r ≡ status (exports.fastDistance (now (description .entry)) (now (point .entry)) (length (now (out .entry)))) ⌝ }
+    ensures left { λ _. ⌜ now (out .exit) ≡ written (now (out .entry)) (exports.fastDistance (now (description .entry)) (now (point .entry)) (length (now (out .entry)))) ⌝ }
+{
+    let number = lengths(description.len(), point.len(), 3, out.len(), 1);
+    if number != 0 {
+        return number;
+    }
+    put_double(fast_distance(describe(description), point_at(point)), out)
+}

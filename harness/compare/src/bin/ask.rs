@@ -1,0 +1,63 @@
+//! Answers requests, one a line: `CALL d1 .. d18 args`, doubles as 16 hexadecimal digits of their bits.
+
+use request::{Answer, Request};
+use std::io::{self, BufRead, Write};
+use std::process::ExitCode;
+
+const HELP: &str = "ask [--reference]: one request a line on standard input, one answer a line
+
+  CALL d1 .. d18 args    single spaces between; whole numbers in decimal, doubles as 16 hexadecimal digits
+  grade_range level_piece                           args: three lows, three highs, in ticks
+  jet affine_jet residual affine_residual box_state args: low and high end of x, of y, of z, in millimetres
+  derivatives                                       args: the same six, then the piece's number
+  facet_residual                                    args: three corners, each as six ends
+  fast fast_distance                                args: x, y, z
+  curvature lipschitz saturated graded planes       no args
+
+Answers: the values, `none`, `refused N`, or `error: ..` for a line that is no request (the exit status is then 1).
+With --reference the original answers, or `panicked`, or `unmade` where the input cannot be made into its types.";
+
+/// One answer a line; whether every line was a request.
+fn answer_all(answer: fn(&Request) -> Answer) -> io::Result<bool> {
+    let mut out = io::stdout().lock();
+    let mut all = true;
+    for line in io::stdin().lock().split(b'\n') {
+        let line = line?;
+        match String::from_utf8_lossy(&line).parse() {
+            Ok(request) => writeln!(out, "{}", answer(&request))?,
+            Err(why) => {
+                all = false;
+                writeln!(out, "error: {why}")?;
+            }
+        }
+    }
+    Ok(all)
+}
+
+fn main() -> ExitCode {
+    let arguments: Vec<String> = std::env::args().skip(1).collect();
+    let answer = match arguments.iter().map(String::as_str).collect::<Vec<_>>()[..] {
+        [] => compare::ours::answer,
+        ["--reference"] if reference::AT_HAND => reference::answer,
+        ["--reference"] => {
+            eprintln!("ask: the original is not at hand: {}", reference::MISSING);
+            return ExitCode::from(2);
+        }
+        ["--help"] => {
+            println!("{HELP}");
+            return ExitCode::SUCCESS;
+        }
+        _ => {
+            eprintln!("{HELP}");
+            return ExitCode::from(2);
+        }
+    };
+    match answer_all(answer) {
+        Ok(true) => ExitCode::SUCCESS,
+        Ok(false) => ExitCode::FAILURE,
+        Err(why) => {
+            eprintln!("ask: {why}");
+            ExitCode::FAILURE
+        }
+    }
+}

@@ -1,0 +1,195 @@
+//! The requests that are compared: a fixed systematic part, and cases by chance.
+
+use crate::chance::Chance;
+use crate::entries::*;
+use crate::{boxes, descriptions, specials};
+use request::{Call, Description, Request, Shape};
+
+/// A box; for the jets half of them small, since a wide one has none.
+fn world(c: &mut Chance, call: Call, d: &Description) -> [f64; 6] {
+    match call {
+        Call::Jet | Call::AffineJet if c.once_in(2) => boxes::rounded(c, d),
+        _ => boxes::world(c, d),
+    }
+}
+
+/// A request about a description.
+pub fn about(c: &mut Chance, call: Call, d: Description) -> Request {
+    let mut request = Request::new(call, d);
+    match call.shape() {
+        Shape::Nothing => {}
+        Shape::Whole => request.whole = boxes::whole(c, &d),
+        Shape::World => request.doubles[..6].copy_from_slice(&world(c, call, &d)),
+        Shape::WorldPiece => {
+            request.doubles[..6].copy_from_slice(&world(c, call, &d));
+            request.piece = c.one_of(&[0, 1, 2]);
+            if c.once_in(32) {
+                request.piece = c.one_of(&[3, 4, 1 << 31, u32::MAX]);
+            }
+        }
+        Shape::Corners => request.doubles = boxes::corners(c, &d),
+        Shape::Point => request.doubles[..3].copy_from_slice(&boxes::point(c, &d)),
+    }
+    request
+}
+
+/// Case `index` of a call.
+pub fn by_chance(call: Call, seed: u64, index: u64) -> Request {
+    let c = &mut Chance::new(seed, call as u64, index);
+    let d = descriptions::description(c);
+    about(c, call, d)
+}
+
+/// A constant, a ramp along each axis, either way and at either slope's limit, and one that is refused.
+fn bases() -> [Description; 6] {
+    let ramp = |axis: usize, from: i64, to: i64, start: i64, end: i64| {
+        let mut d = PLAIN;
+        (d[LEVEL_KIND], d[START], d[END]) = (LINEAR, start, end);
+        (d[FROM + axis], d[TO + axis]) = (from, to);
+        d
+    };
+    let mut refused = PLAIN;
+    refused[PERIOD] = 0;
+    [
+        PLAIN,
+        ramp(0, 0, 10240, -256, 256),
+        ramp(1, 1024, -4096, 256, -256),
+        ramp(2, -TICKS, TICKS, 1, 0),
+        ramp(0, 10240, 0, 7, 7),
+        refused,
+    ]
+}
+
+/// A box that is small, on no anchor plane, and in order.
+fn quiet(call: Call, d: Description) -> Request {
+    let mut request = Request::new(call, d);
+    for i in 0..call.shape().whole() {
+        request.whole[i] = 1 + i as i64 / 3;
+    }
+    for i in 0..call.shape().doubles() {
+        request.doubles[i] = (1 + i % 2) as f64 / 1024.0;
+    }
+    request
+}
+
+/// Every entry of each base at every special number, and every pair of the table's rows broken.
+fn entries(call: Call, out: &mut Vec<Request>) {
+    for base in bases() {
+        for i in 0..18 {
+            for n in specials::whole() {
+                let mut request = quiet(call, base);
+                request.description[i] = n;
+                out.push(request);
+            }
+        }
+        let c = &mut Chance::new(0, call as u64, 0);
+        for first in descriptions::ROWS {
+            for second in descriptions::ROWS {
+                let mut request = quiet(call, base);
+                first(c, &mut request.description);
+                second(c, &mut request.description);
+                out.push(request);
+            }
+        }
+    }
+}
+
+/// Every pair of special ticks as the ends of each axis, and the neighbours of the anchors.
+fn whole_pairs(call: Call, out: &mut Vec<Request>) {
+    for base in bases() {
+        for axis in 0..3 {
+            let mut places = specials::whole();
+            for anchor in [base[FROM + axis], base[TO + axis]] {
+                places.extend([anchor - 1, anchor, anchor + 1]);
+            }
+            for low in &places {
+                for high in &places {
+                    let mut request = quiet(call, base);
+                    (request.whole[axis], request.whole[axis + 3]) = (*low, *high);
+                    out.push(request);
+                }
+            }
+        }
+    }
+}
+
+/// Every pair of special doubles in two places: the ends of each interval, or two coordinates of a point.
+fn double_pairs(call: Call, out: &mut Vec<Request>) {
+    let specials = specials::doubles();
+    let places: Vec<[usize; 2]> = match call.shape() {
+        Shape::Point => vec![[0, 1], [1, 2], [2, 0]],
+        shape => (0..shape.doubles()).step_by(2).map(|i| [i, i + 1]).collect(),
+    };
+    for (number, base) in bases().into_iter().enumerate() {
+        for [i, j] in &places {
+            for a in &specials {
+                for b in &specials {
+                    let mut request = quiet(call, base);
+                    (request.doubles[*i], request.doubles[*j]) = (*a, *b);
+                    if call.shape() == Shape::WorldPiece {
+                        request.piece = number as u32 % 3;
+                    }
+                    out.push(request);
+                }
+            }
+        }
+    }
+}
+
+fn pieces(call: Call, out: &mut Vec<Request>) {
+    for base in bases() {
+        for piece in [0, 1, 2, 3, 4, 1 << 31, u32::MAX] {
+            let mut request = quiet(call, base);
+            request.piece = piece;
+            out.push(request);
+        }
+    }
+}
+
+/// The systematic part of a call: the same for every seed.
+pub fn systematic(call: Call) -> Vec<Request> {
+    let mut out = Vec::new();
+    entries(call, &mut out);
+    if call.shape() == Shape::Whole {
+        whole_pairs(call, &mut out);
+    }
+    if call.shape() == Shape::WorldPiece {
+        pieces(call, &mut out);
+    }
+    double_pairs(call, &mut out);
+    out
+}
+
+#[cfg(test)]
+mod tests {
+    use super::*;
+    use crate::added;
+
+    #[test]
+    fn accepted_descriptions_are_accepted() {
+        for index in 0..20_000 {
+            let d = descriptions::accepted(&mut Chance::new(7, 0, index));
+            assert_eq!(added::refusal(&Request::new(Call::Graded, d)), None, "{d:?}");
+        }
+    }
+
+    #[test]
+    fn rows_are_broken() {
+        for index in 0..2_000 {
+            for (row, number) in descriptions::ROWS.into_iter().zip([1, 2, 3, 2, 3, 4, 5, 5, 3, 3, 3]) {
+                let c = &mut Chance::new(8, 0, index);
+                let mut d = descriptions::accepted(c);
+                row(c, &mut d);
+                assert_eq!(added::refusal(&Request::new(Call::Graded, d)), Some(number), "{d:?}");
+            }
+        }
+    }
+
+    #[test]
+    fn a_case_depends_on_its_seed_and_index_alone() {
+        let text = |seed, index| by_chance(Call::FacetResidual, seed, index).to_string();
+        assert_eq!(text(1, 5), text(1, 5));
+        assert_ne!(text(1, 5), text(1, 6));
+        assert_ne!(text(1, 5), text(2, 5));
+    }
+}

@@ -1,0 +1,41 @@
+//! Where a description's entries stand, and document 01's limits.
+
+use request::Description;
+use std::ops::RangeInclusive;
+
+pub const PERIOD: usize = 0;
+pub const KIND: usize = 1;
+pub const LEVEL_KIND: usize = 2;
+pub const FROM: usize = 3;
+pub const TO: usize = 6;
+pub const START: usize = 9;
+pub const END: usize = 10;
+pub const W: usize = 11;
+/// The first of x, y, z of the rotation and of the translation: all are 0 in the part frame.
+pub const X: usize = 12;
+
+pub const NETWORK: i64 = 0;
+pub const SHEET: i64 = 1;
+pub const CONSTANT: i64 = 0;
+pub const LINEAR: i64 = 1;
+pub const DISTANCE: i64 = 2;
+
+/// Coordinates, period and frame entries are at most this in size.
+pub const TICKS: i64 = 1 << 20;
+/// Levels, in counts.
+pub const COUNTS: i64 = 4096;
+/// The ends of a ramp, in counts.
+pub const RAMP: i64 = 256;
+
+/// A network of period 10 mm in the part frame, at the constant level 0.
+pub const PLAIN: Description = [10240, 0, 0, 0, 0, 0, 0, 0, 0, 0, 0, 1, 0, 0, 0, 0, 0, 0];
+
+/// The limits of an entry.
+pub fn limits(entry: usize) -> RangeInclusive<i64> {
+    match entry {
+        KIND => NETWORK..=SHEET,
+        LEVEL_KIND => CONSTANT..=DISTANCE,
+        START | END => -COUNTS..=COUNTS,
+        _ => -TICKS..=TICKS,
+    }
+}

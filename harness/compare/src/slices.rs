@@ -1,0 +1,131 @@
+//! What the static library promises of lent slices: lengths are tested before all else, and nothing is written but found values.
+
+use crate::cases;
+use gyroid_cells::raw::{self, FOUND, LENGTH, NONE, OnDescription, OnSlice};
+use request::{Answer, Call, Request, Shape};
+
+/// What stands in `out` before a call: no value's bits.
+const UNTOUCHED: u64 = 0x7FF8_DEAD_BEEF_0000;
+/// Room for any call's values, and more.
+const ROOM: usize = 30;
+/// Room for any call's arguments, and one more.
+const LENT: usize = 19;
+
+/// The values that a call writes.
+fn values(call: Call) -> usize {
+    match call {
+        Call::GradeRange | Call::Planes => 3,
+        Call::Jet | Call::AffineJet => 8,
+        Call::Derivatives => 24,
+        Call::Residual | Call::AffineResidual | Call::FacetResidual => 2,
+        Call::Curvature | Call::Lipschitz => 2,
+        _ => 1,
+    }
+}
+
+/// Lends the first `length` entries of the description, the first `lent` of the argument, and all of `out`, as bits.
+pub fn lend(request: &Request, length: usize, lent: usize, out: &mut [u64]) -> u32 {
+    let mut d = [0; LENT];
+    d[..18].copy_from_slice(&request.description);
+    let mut whole = [0; LENT];
+    whole[..6].copy_from_slice(&request.whole);
+    let mut doubles = [0.0; LENT];
+    doubles[..18].copy_from_slice(&request.doubles);
+    assert!(length <= LENT && lent <= LENT);
+    let (at, room) = (out.as_mut_ptr(), out.len());
+    // Every pointer is of an array that is at least as long as the length beside it; 64 bits are 64 bits in `out`.
+    let alone_f = |call: OnDescription<f64>| unsafe { call(d.as_ptr(), length, at.cast(), room) };
+    let alone_i = |call: OnDescription<i64>| unsafe { call(d.as_ptr(), length, at.cast(), room) };
+    let on_whole = |call: OnSlice<i64, i64>| unsafe { call(d.as_ptr(), length, whole.as_ptr(), lent, at.cast(), room) };
+    let on_doubles =
+        |call: OnSlice<f64, f64>| unsafe { call(d.as_ptr(), length, doubles.as_ptr(), lent, at.cast(), room) };
+    match request.call {
+        Call::GradeRange => on_whole(raw::gyroid_grade_range),
+        Call::LevelPiece => on_whole(raw::gyroid_level_piece),
+        Call::Jet => on_doubles(raw::gyroid_jet),
+        Call::AffineJet => on_doubles(raw::gyroid_affine_jet),
+        Call::Derivatives => unsafe {
+            let (d, lent_from) = (d.as_ptr(), doubles.as_ptr());
+            raw::gyroid_derivatives(d, length, lent_from, lent, request.piece, at.cast(), room)
+        },
+        Call::Residual => on_doubles(raw::gyroid_residual),
+        Call::AffineResidual => on_doubles(raw::gyroid_affine_residual),
+        Call::BoxState => unsafe { raw::gyroid_box_state(d.as_ptr(), length, doubles.as_ptr(), lent, at.cast(), room) },
+        Call::FacetResidual => on_doubles(raw::gyroid_facet_residual),
+        Call::Curvature => alone_f(raw::gyroid_curvature),
+        Call::Lipschitz => alone_f(raw::gyroid_lipschitz),
+        Call::Saturated => alone_i(raw::gyroid_saturated),
+        Call::Graded => alone_i(raw::gyroid_graded),
+        Call::Planes => alone_i(raw::gyroid_planes),
+        Call::FastDistance => on_doubles(raw::gyroid_fast_distance),
+        Call::Fast => on_doubles(raw::gyroid_fast),
+    }
+}
+
+/// The status of our own answer.
+fn status(answer: &Answer) -> u32 {
+    match answer {
+        Answer::Found(_) => FOUND,
+        Answer::Refused(n) => *n,
+        _ => NONE,
+    }
+}
+
+/// Lends slices of these lengths and says what is wrong with the status, or with what was written.
+fn wrong(request: &Request, lengths: [usize; 3], expected: u32) -> Option<String> {
+    let [length, lent, room] = lengths;
+    let mut out = [UNTOUCHED; ROOM];
+    let status = lend(request, length, lent, &mut out[..room]);
+    let written = if expected == FOUND { values(request.call) } else { 0 };
+    let left = out[written..].iter().all(|bits| *bits == UNTOUCHED);
+    let made = out[..written].iter().all(|bits| *bits != UNTOUCHED);
+    (status != expected || !left || !made).then(|| {
+        format!(
+            "{request}\n    lengths {length}, {lent}, {room}: status {status}, not {expected}; \
+             values written: {made}, the rest kept: {left}"
+        )
+    })
+}
+
+/// The argument's right length.
+fn right(request: &Request) -> usize {
+    let shape = request.call.shape();
+    shape.whole() + shape.doubles()
+}
+
+/// The lengths to lend, and the status that each asks for.
+fn lengths(request: &Request) -> Vec<([usize; 3], u32)> {
+    let (lent, room) = (right(request), values(request.call));
+    let status = status(&crate::ours::answer(request));
+    let mut out = vec![
+        ([18, lent, room], status),
+        ([18, lent, room + 1], status),
+        ([18, lent, ROOM], status),
+        ([18, lent, room - 1], LENGTH),
+        ([18, lent, 0], LENGTH),
+        ([17, lent, room], 1),
+        ([19, lent, room], 1),
+        ([0, lent, room], 1),
+        ([17, lent, room - 1], LENGTH),
+    ];
+    if request.call.shape() != Shape::Nothing {
+        for other in [0, lent - 1, lent + 1] {
+            out.extend([([18, other, room], LENGTH), ([19, other, room], LENGTH)]);
+        }
+    }
+    out
+}
+
+/// Lends slices of right and wrong lengths for the first cases of a call; how many calls were made, and what was wrong.
+pub fn check(call: Call, seed: u64) -> (u64, Vec<String>) {
+    let requests = (0..200).map(|index| cases::by_chance(call, seed, index));
+    let mut made = 0;
+    let mut faults = Vec::new();
+    for request in requests {
+        for (lengths, expected) in lengths(&request) {
+            made += 1;
+            faults.extend(wrong(&request, lengths, expected));
+        }
+    }
+    (made, faults)
+}

@@ -1,0 +1,86 @@
+//! The original over the stand-ins, against constants and answers that were worked out elsewhere.
+
+macro_rules! with_original {
+    ($name:ident $body:block) => {
+        #[test]
+        #[cfg_attr(not(original), ignore = "the original is not at hand")]
+        fn $name() {
+            #[cfg(original)]
+            $body
+        }
+    };
+}
+
+with_original!(constants_of_a_leaf {
+    assert_eq!(
+        crate::gyroid::access::constants::of_the_leaf(),
+        [
+            [0x401921FB54442D18, 0x401921FB54442D19],
+            [0x3FB9999999999999, 0x3FB999999999999B],
+            [0x3FE41B2F769CF0DF, 0x3FE41B2F769CF0E3],
+            [0x3FD94424D9457823, 0x3FD94424D945782F],
+            [0x4001999999999999, 0x400199999999999B],
+            [0x3FF61BA03E1CC91E, 0x3FF61BA03E1CC92A],
+        ]
+    );
+});
+
+with_original!(series_and_tails {
+    assert_eq!(
+        crate::gyroid::access::constants::series(),
+        [
+            [
+                0x3FF0000000000000, 0xBFC5555555555555, 0x3F81111111111111,
+                0xBF2A01A01A01A01A, 0x3EC71DE3A556C734, 0xBE5AE64567F544E4,
+                0x3DE6124613A86D09, 0xBD6AE7F3E733B81F, 0x3CE952C77030AD4A,
+            ],
+            [
+                0x3FF0000000000000, 0xBFE0000000000000, 0x3FA5555555555555,
+                0xBF56C16C16C16C17, 0x3EFA01A01A01A01A, 0xBE927E4FB7789F5C,
+                0x3E21EED8EFF8D898, 0xBDA93974A8C07C9D, 0x3D2AE7F3E733B81F,
+            ],
+        ]
+    );
+    assert_eq!(
+        crate::gyroid::access::constants::tails(),
+        [0x3C017BBD5335428C, 0x3C49F3AD07830EC7]
+    );
+});
+
+/// Requests, then the original's answers.
+#[cfg(original)]
+const ASKED: &[[&str; 2]] = &[
+    // Document 01's listing: the whole box, and its half.
+    [
+        "residual 10240 0 0 0 0 0 0 0 0 2048 0 1 0 0 0 0 0 0 0000000000000000 3FF0000000000000 0000000000000000 3FF0000000000000 0000000000000000 3FF0000000000000",
+        "C003C8A92EA5E623 3FCE40371FDE9E81",
+    ],
+    [
+        "residual 10240 0 0 0 0 0 0 0 0 2048 0 1 0 0 0 0 0 0 0000000000000000 3FE0000000000000 0000000000000000 3FF0000000000000 0000000000000000 3FF0000000000000",
+        "C002C3D05159ED83 BFC44DB62B78465F",
+    ],
+    // Marked values (1), (7), (10) and (12).
+    ["grade_range 10240 0 1 0 0 0 10240 0 0 -256 256 1 0 0 0 0 0 0 0 0 0 5120 0 0", "-256/1 0/1"],
+    ["level_piece 10240 0 1 0 0 0 10240 0 0 -256 256 1 0 0 0 0 0 0 -1 0 0 1 0 0", "none"],
+    ["graded 10240 0 1 0 0 0 5119 0 0 -256 256 1 0 0 0 0 0 0", "refused 5"],
+    ["graded 10240 0 1 0 0 0 0 0 0 7 7 1 0 0 0 0 0 0", "refused 2"],
+    ["planes 1 0 1 0 5 0 0 -5 0 0 1 1 0 0 0 0 0 0", "1 5/1 -5/1"],
+    ["saturated 1 0 0 0 0 0 0 0 0 1536 0 1 0 0 0 0 0 0", "1"],
+    // What the original cannot be asked, and where it panics.
+    ["graded 1 2 0 0 0 0 0 0 0 0 0 1 0 0 0 0 0 0", "unmade"],
+    ["graded 1 0 1 -9223372036854775808 0 0 9223372036854775807 0 0 0 1 1 0 0 0 0 0 0", "unmade"],
+    [
+        "jet 1 0 0 0 0 0 0 0 0 0 0 1 0 0 0 0 0 0 3FF0000000000000 0000000000000000 0000000000000000 0000000000000000 0000000000000000 0000000000000000",
+        "unmade",
+    ],
+    [
+        "derivatives 1 0 0 0 0 0 0 0 0 0 0 1 0 0 0 0 0 0 FFF0000000000000 FFF0000000000000 0000000000000000 0000000000000000 0000000000000000 0000000000000000 0",
+        "panicked",
+    ],
+];
+
+with_original!(answers {
+    for [line, said] in ASKED {
+        assert_eq!(crate::answer(&line.parse().unwrap()).to_string(), *said, "{line}");
+    }
+});
