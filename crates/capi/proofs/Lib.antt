@@ -1,2 +1,4 @@
--- The archive's laws. Assumes nothing.
-mod LentLaws
+-- What the proofs of the exports cite. Assumes nothing.
+mod LengthLaws
+mod NumberLaws
+mod AnswerLaws

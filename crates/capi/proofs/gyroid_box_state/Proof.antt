@@ -4,7 +4,8 @@ use borrow.Author.Needs.{needs}
 use lib.IntN.{pos}
 use Rattle.gyroid.specs.Calls.{boxStateCall}
 use Rattle.capi.specs.Exports.{boxState, each}
-use Rattle.capi.proofs.LentLaws.{stopped, passed, sized, holds}
+use Rattle.capi.proofs.AnswerLaws.{stopped, passed}
+use Rattle.capi.proofs.LengthLaws.{sized, holds}
 use Rattle.capi.proofs.gyroid_box_state.Statement.{statement}
 use Rattle.capi.proofs.gyroid_box_state.Tie as tie
 

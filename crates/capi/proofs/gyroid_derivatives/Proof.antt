@@ -4,7 +4,8 @@ use borrow.Author.Needs.{needs}
 use Rattle.grade.proofs.RefusalLaws.{neither}
 use Rattle.gyroid.specs.Calls.{derivativesCall}
 use Rattle.capi.specs.Exports.{derivatives, derivativesSaid}
-use Rattle.capi.proofs.LentLaws.{stopped, passed, sized, holds, either}
+use Rattle.capi.proofs.AnswerLaws.{stopped, passed}
+use Rattle.capi.proofs.LengthLaws.{sized, holds, either}
 use Rattle.capi.proofs.gyroid_derivatives.Statement.{statement}
 use Rattle.capi.proofs.gyroid_derivatives.Tie as tie
 

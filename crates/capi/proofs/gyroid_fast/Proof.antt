@@ -3,7 +3,8 @@ use mathlib.Core.Path.{_∙_}
 use borrow.Author.Needs.{needs}
 use Rattle.gyroid.specs.Calls.{fastCall}
 use Rattle.capi.specs.Exports.{fast}
-use Rattle.capi.proofs.LentLaws.{stopped, passed, sized}
+use Rattle.capi.proofs.AnswerLaws.{stopped, passed}
+use Rattle.capi.proofs.LengthLaws.{sized}
 use Rattle.capi.proofs.gyroid_fast.Statement.{statement}
 use Rattle.capi.proofs.gyroid_fast.Tie as tie
 

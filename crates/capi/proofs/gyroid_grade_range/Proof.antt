@@ -5,7 +5,8 @@ use borrow.Author.Needs.{needs}
 use lib.Dec.{lit≤}
 use Rattle.grade.specs.Calls.{rangeCall}
 use Rattle.capi.specs.Exports.{gradeRange}
-use Rattle.capi.proofs.LentLaws.{stopped, passed, sized, holds}
+use Rattle.capi.proofs.AnswerLaws.{stopped, passed}
+use Rattle.capi.proofs.LengthLaws.{sized, holds}
 use Rattle.capi.proofs.gyroid_grade_range.Statement.{statement}
 use Rattle.capi.proofs.gyroid_grade_range.Tie as tie
 

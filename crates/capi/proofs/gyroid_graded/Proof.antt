@@ -3,7 +3,8 @@ use mathlib.Core.Path.{_∙_, ap}
 use borrow.Author.Needs.{needs}
 use Rattle.gyroid.specs.Calls.{gradedCall}
 use Rattle.capi.specs.Exports.{graded, each, bit}
-use Rattle.capi.proofs.LentLaws.{stopped, passed, sized}
+use Rattle.capi.proofs.AnswerLaws.{stopped, passed}
+use Rattle.capi.proofs.LengthLaws.{sized}
 use Rattle.capi.proofs.gyroid_graded.Statement.{statement}
 use Rattle.capi.proofs.gyroid_graded.Tie as tie
 

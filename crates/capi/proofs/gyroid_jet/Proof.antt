@@ -3,7 +3,8 @@ use mathlib.Core.Path.{_∙_, ap}
 use borrow.Author.Needs.{needs}
 use Rattle.gyroid.specs.Calls.{jetCall}
 use Rattle.capi.specs.Exports.{jet, jetSaid}
-use Rattle.capi.proofs.LentLaws.{stopped, passed, sized, holds}
+use Rattle.capi.proofs.AnswerLaws.{stopped, passed}
+use Rattle.capi.proofs.LengthLaws.{sized, holds}
 use Rattle.capi.proofs.gyroid_jet.Statement.{statement}
 use Rattle.capi.proofs.gyroid_jet.Tie as tie
 

@@ -6,7 +6,8 @@ use lib.Dec.{lit≤}
 use lib.IntN.{pos}
 use Rattle.gyroid.specs.Calls.{levelPieceCall}
 use Rattle.capi.specs.Exports.{levelPiece, each}
-use Rattle.capi.proofs.LentLaws.{stopped, passed, sized, holds}
+use Rattle.capi.proofs.AnswerLaws.{stopped, passed}
+use Rattle.capi.proofs.LengthLaws.{sized, holds}
 use Rattle.capi.proofs.gyroid_level_piece.Statement.{statement}
 use Rattle.capi.proofs.gyroid_level_piece.Tie as tie
 

@@ -4,7 +4,8 @@ use borrow.Author.Needs.{needs}
 use Rattle.gyroid.proofs.PlanesLaws.{planes-axis}
 use Rattle.gyroid.specs.Calls.{planesCall}
 use Rattle.capi.specs.Exports.{planes}
-use Rattle.capi.proofs.LentLaws.{stopped, passed, sized}
+use Rattle.capi.proofs.AnswerLaws.{stopped, passed}
+use Rattle.capi.proofs.LengthLaws.{sized}
 use Rattle.capi.proofs.gyroid_planes.Statement.{statement}
 use Rattle.capi.proofs.gyroid_planes.Tie as tie
 

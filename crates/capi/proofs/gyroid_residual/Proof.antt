@@ -3,7 +3,8 @@ use mathlib.Core.Path.{_∙_}
 use borrow.Author.Needs.{needs}
 use Rattle.gyroid.specs.Calls.{residualCall}
 use Rattle.capi.specs.Exports.{residual}
-use Rattle.capi.proofs.LentLaws.{stopped, passed, sized, holds}
+use Rattle.capi.proofs.AnswerLaws.{stopped, passed}
+use Rattle.capi.proofs.LengthLaws.{sized, holds}
 use Rattle.capi.proofs.gyroid_residual.Statement.{statement}
 use Rattle.capi.proofs.gyroid_residual.Tie as tie
 

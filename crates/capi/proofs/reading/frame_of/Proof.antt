@@ -1,7 +1,7 @@
 -- Entry by entry. Assumes nothing.
 use borrow.Author.Needs.{needs}
 use Rattle.capi.specs.Lent.{frame}
-use Rattle.capi.proofs.LentLaws.{entry}
+use Rattle.capi.proofs.NumberLaws.{entry}
 use Rattle.capi.proofs.reading.frame_of.Statement.{statement}
 use Rattle.capi.proofs.reading.frame_of.Tie as tie
 

@@ -5,7 +5,7 @@ use borrow.Author.Needs.{needs}
 use Rattle.grade.specs.Intervals.{boxAt}
 use Rattle.capi.specs.Exports.{derivativesValues, threeOf}
 use Rattle.capi.specs.Lent.{over}
-use Rattle.capi.proofs.LentLaws.{struct-refused, struct-none, struct-found}
+use Rattle.capi.proofs.AnswerLaws.{struct-refused, struct-none, struct-found}
 use Rattle.capi.proofs.writing.put_derivatives.Statement.{statement}
 use Rattle.capi.proofs.writing.put_derivatives.Tie as tie
 

@@ -2,7 +2,7 @@
 use mathlib.Core.Path.{refl, ap}
 use borrow.Author.Needs.{needs}
 use Rattle.gyroid.specs.Calls.{doubleSaid}
-use Rattle.capi.proofs.LentLaws.{values}
+use Rattle.capi.proofs.AnswerLaws.{values}
 use Rattle.capi.proofs.writing.put_double.Statement.{statement}
 use Rattle.capi.proofs.writing.put_double.Tie as tie
 

@@ -2,7 +2,7 @@
 use mathlib.Core.Path.{refl, ap}
 use borrow.Author.Needs.{needs}
 use Rattle.gyroid.specs.Calls.{enclosureSaid}
-use Rattle.capi.proofs.LentLaws.{values, nothing}
+use Rattle.capi.proofs.AnswerLaws.{values, nothing}
 use Rattle.capi.proofs.writing.put_enclosure.Statement.{statement}
 use Rattle.capi.proofs.writing.put_enclosure.Tie as tie
 

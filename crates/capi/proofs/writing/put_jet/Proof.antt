@@ -3,7 +3,7 @@ use native.Mathlib.Omega.{arith}
 use borrow.Author.Needs.{needs}
 use lib.ListN.{length-set}
 use Rattle.capi.specs.Exports.{jetValues}
-use Rattle.capi.proofs.LentLaws.{struct-refused, struct-none, struct-found}
+use Rattle.capi.proofs.AnswerLaws.{struct-refused, struct-none, struct-found}
 use Rattle.capi.proofs.writing.put_jet.Statement.{statement}
 use Rattle.capi.proofs.writing.put_jet.Tie as tie
 

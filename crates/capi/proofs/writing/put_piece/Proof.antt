@@ -4,7 +4,8 @@ use borrow.Author.Needs.{needs}
 use lib.IntN.{pos}
 use Rattle.gyroid.specs.Calls.{levelPieceSaid}
 use Rattle.capi.specs.Exports.{each}
-use Rattle.capi.proofs.LentLaws.{set-small, piece-fits, values, nothing}
+use Rattle.capi.proofs.AnswerLaws.{values, nothing}
+use Rattle.capi.proofs.NumberLaws.{set-small, piece-fits}
 use Rattle.capi.proofs.writing.put_piece.Statement.{statement}
 use Rattle.capi.proofs.writing.put_piece.Tie as tie
 

@@ -6,7 +6,8 @@ use lib.IntN.{pos}
 use lib.ListN.{length-set}
 use Rattle.gyroid.specs.Calls.{planesSaid}
 use Rattle.gyroid.specs.Fits.{AxisBelow}
-use Rattle.capi.proofs.LentLaws.{values, set-three, axis-fits, nothing}
+use Rattle.capi.proofs.AnswerLaws.{values, nothing}
+use Rattle.capi.proofs.NumberLaws.{set-three, axis-fits}
 use Rattle.capi.proofs.writing.put_planes.Statement.{statement}
 use Rattle.capi.proofs.writing.put_planes.Tie as tie
 
@@ -17,7 +18,7 @@ enum-known-answer-2 : tie.Need-enum-known-answer-2
 enum-known-answer-2 c = search needs
 
 cast-out : tie.Need-cast-out
-cast-out c = axis-fits _ (subst AxisBelow (c .before .answer2 .given .1) (c .before .before .before .pre .1))
+cast-out c = axis-fits (subst AxisBelow (c .before .answer2 .given .1) (c .before .before .before .pre .1))
 
 slice-set-from-out : tie.Need-slice-set-from-out
 slice-set-from-out c = search needs
@@ -41,7 +42,7 @@ returns-2 : tie.Need-returns-2
 returns-2 c =
     let given = c .before .answer2 .given .0 in
     values _ _ _ _ _ (ap planesSaid (c .before .answer2 .given .1)) (set-three (c .before .before .before .args .out .now) (pos (given .0)) (given .1 .0) (given .1 .1 .0)
-    (axis-fits _ (subst AxisBelow (c .before .answer2 .given .1) (c .before .before .before .pre .1))) (record { sfits = c .known-told2 .given .1 .0 .1 }) (record { sfits = c .known-told2 .given .1 .1 .0 .1 }))
+    (axis-fits (subst AxisBelow (c .before .answer2 .given .1) (c .before .before .before .pre .1))) (record { sfits = c .known-told2 .given .1 .0 .1 }) (record { sfits = c .known-told2 .given .1 .1 .0 .1 }))
 
 returns-3 : tie.Need-returns-3
 returns-3 c = nothing _ _ (ap planesSaid (c .enum-told .given .1))

@@ -4,7 +4,8 @@ use native.Mathlib.Omega.{arith}
 use borrow.Author.Needs.{needs}
 use lib.ListN.{length-set}
 use Rattle.grade.specs.Calls.{rangeSaid}
-use Rattle.capi.proofs.LentLaws.{values, set-three}
+use Rattle.capi.proofs.AnswerLaws.{values}
+use Rattle.capi.proofs.NumberLaws.{set-three}
 use Rattle.capi.proofs.writing.put_range.Statement.{statement}
 use Rattle.capi.proofs.writing.put_range.Tie as tie
 

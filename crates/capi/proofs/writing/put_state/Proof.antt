@@ -4,7 +4,8 @@ use borrow.Author.Needs.{needs}
 use lib.IntN.{pos}
 use Rattle.gyroid.specs.Calls.{stateSaid}
 use Rattle.capi.specs.Exports.{each}
-use Rattle.capi.proofs.LentLaws.{set-small, state-fits, values}
+use Rattle.capi.proofs.AnswerLaws.{values}
+use Rattle.capi.proofs.NumberLaws.{set-small, state-fits}
 use Rattle.capi.proofs.writing.put_state.Statement.{statement}
 use Rattle.capi.proofs.writing.put_state.Tie as tie
 

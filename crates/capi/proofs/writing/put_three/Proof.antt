@@ -2,7 +2,7 @@
 use native.Mathlib.Omega.{arith}
 use borrow.Author.Needs.{needs}
 use lib.ListN.{length-set}
-use Rattle.capi.proofs.LentLaws.{six}
+use Rattle.capi.proofs.NumberLaws.{six}
 use Rattle.capi.proofs.writing.put_three.Statement.{statement}
 use Rattle.capi.proofs.writing.put_three.Tie as tie
 

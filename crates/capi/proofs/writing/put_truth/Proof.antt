@@ -3,7 +3,8 @@ use mathlib.Core.Path.{ap}
 use borrow.Author.Needs.{needs}
 use Rattle.gyroid.specs.Calls.{truthSaid}
 use Rattle.capi.specs.Exports.{each, bit}
-use Rattle.capi.proofs.LentLaws.{set-small, bit-fits, values, nothing}
+use Rattle.capi.proofs.AnswerLaws.{values, nothing}
+use Rattle.capi.proofs.NumberLaws.{set-small, bit-fits}
 use Rattle.capi.proofs.writing.put_truth.Statement.{statement}
 use Rattle.capi.proofs.writing.put_truth.Tie as tie
 
