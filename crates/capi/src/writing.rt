@@ -23,6 +23,7 @@ use gyroid::StateAnswer;
 use gyroid::TruthAnswer;
 use interval::Interval;
 
+// Nothing is found.
 const NONE: u32 = 100;
 
 pub fn put_enclosure(answer: EnclosureAnswer, out: &mut [f64]) -> u32

@@ -281,7 +281,7 @@ fn record(fd: i32, r: Run) -> Run {
     body(fd, first_word(&s), r)
 }
 
-pub fn all(fd: i32) -> Tally {
+pub(crate) fn all(fd: i32) -> Tally {
     let mut turns = u64::MAX;
     let mut r = Run {
         description: [0; 18],

@@ -146,7 +146,7 @@ fn some(fd: i32, t: Tally) -> Tally {
     block(&buf[..n], t)
 }
 
-pub fn all(fd: i32) -> Tally {
+pub(crate) fn all(fd: i32) -> Tally {
     let mut turns = u64::MAX;
     let mut u = Tally::none();
     while turns > 0 && u.more {

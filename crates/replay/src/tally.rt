@@ -1,14 +1,14 @@
 // How many records were seen and how many differ; one that differs is named by its list and its place, counted from 0.
 use libc::STDOUT_FILENO;
 
-pub struct Tally {
+pub(crate) struct Tally {
     pub seen: u64,
     pub bad: u64,
     pub more: bool,
 }
 
 impl Tally {
-    pub fn none() -> Tally {
+    pub(crate) fn none() -> Tally {
         Tally {
             seen: 0,
             bad: 0,
@@ -17,7 +17,7 @@ impl Tally {
     }
 
     // No more records.
-    pub fn ended(self) -> Tally {
+    pub(crate) fn ended(self) -> Tally {
         Tally {
             seen: self.seen,
             bad: self.bad,
@@ -26,7 +26,7 @@ impl Tally {
     }
 
     // One more record seen.
-    pub fn counted(self, list: &[u8], good: bool) -> Tally {
+    pub(crate) fn counted(self, list: &[u8], good: bool) -> Tally {
         let next = std::num::wrapping_add_u64(self.seen, 1);
         if good {
             return Tally {
@@ -47,7 +47,7 @@ impl Tally {
         }
     }
 
-    pub fn print(self, list: &[u8]) {
+    pub(crate) fn print(self, list: &[u8]) {
         io::write_all(STDOUT_FILENO, list);
         io::write_all(STDOUT_FILENO, b": ");
         io::print_decimal(STDOUT_FILENO, self.seen);

@@ -7,16 +7,16 @@ fn wide(x: u8) -> u64 {
     x as u64
 }
 
-pub fn count(x: u8) -> usize {
+pub(crate) fn count(x: u8) -> usize {
     x as usize
 }
 
-pub fn small(x: u8) -> u32 {
+pub(crate) fn small(x: u8) -> u32 {
     x as u32
 }
 
 // The eight bytes at `at`.
-pub fn word(s: &[u8], at: usize) -> u64
+pub(crate) fn word(s: &[u8], at: usize) -> u64
     requires { ⌜ at + 8 ≤ length (now s) ⌝ }
 {
     wide(s[at])
@@ -30,7 +30,7 @@ pub fn word(s: &[u8], at: usize) -> u64
 }
 
 // The double with these bits; every NaN pattern is one NaN.
-pub fn float_of(n: u64) -> f64 {
+pub(crate) fn float_of(n: u64) -> f64 {
     let m = n % 0x8000_0000_0000_0000;
     if m > 0x7ff0_0000_0000_0000 {
         return 0.0 / 0.0;
@@ -39,7 +39,7 @@ pub fn float_of(n: u64) -> f64 {
 }
 
 // n less 2^53, or 0 where that is beyond 2^53 in size.
-pub fn number(n: u64) -> i64
+pub(crate) fn number(n: u64) -> i64
     ensures { λ r. ⌜ natAbs r ≤ 2 ^ 53 ⌝ }
 {
     if n <= 0x40_0000_0000_0000 {
@@ -49,7 +49,7 @@ pub fn number(n: u64) -> i64
 }
 
 // n less 2^62, or 0 from 2^63 on.
-pub fn offset(n: u64) -> i64 {
+pub(crate) fn offset(n: u64) -> i64 {
     if n < 0x8000_0000_0000_0000 {
         return n as i64 - 0x4000_0000_0000_0000;
     }
@@ -57,6 +57,6 @@ pub fn offset(n: u64) -> i64 {
 }
 
 // Zeros of either sign are alike, and so are all NaNs.
-pub fn same(x: f64, y: f64) -> bool {
+pub(crate) fn same(x: f64, y: f64) -> bool {
     if x != x { y != y } else { x == y }
 }
