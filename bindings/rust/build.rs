@@ -1,9 +1,10 @@
 //! Finds the static library and links it. It stands in target/staticlib of the project, or in the directory that
 //! GYROID_ARCHIVE_DIR names. An archive that is there is used as it is; the project's own is made where it is missing.
 
-use std::env;
 use std::path::{Path, PathBuf};
 use std::process::Command;
+use std::time::SystemTime;
+use std::{env, fs};
 
 const ARCHIVE: &str = "libcapi.a";
 
@@ -20,6 +21,28 @@ fn make(root: &Path) -> Result<(), String> {
     }
 }
 
+/// When a file of a directory was last changed.
+fn newest(directory: &Path) -> Option<SystemTime> {
+    let entries = fs::read_dir(directory).ok()?.flatten();
+    let times = entries.filter_map(|entry| {
+        let path = entry.path();
+        if path.is_dir() { newest(&path) } else { path.metadata().ok()?.modified().ok() }
+    });
+    times.max()
+}
+
+/// Says so where a source is newer than the archive: nothing is proved again unasked.
+fn warn_of_newer_sources(root: &Path, archive: &Path) {
+    let crates = root.join("crates");
+    println!("cargo::rerun-if-changed={}", crates.display());
+    let names = fs::read_dir(crates).into_iter().flatten().flatten();
+    let changed = names.filter_map(|name| newest(&name.path().join("src"))).max();
+    let made = archive.metadata().and_then(|archive| archive.modified()).ok();
+    if changed > made {
+        println!("cargo::warning={ARCHIVE} is older than the sources: `rt staticlib capi` makes it anew");
+    }
+}
+
 fn directory() -> Result<PathBuf, String> {
     if let Some(named) = env::var_os("GYROID_ARCHIVE_DIR") {
         return Ok(named.into());
@@ -29,6 +52,7 @@ fn directory() -> Result<PathBuf, String> {
     if !directory.join(ARCHIVE).is_file() {
         make(&root)?;
     }
+    warn_of_newer_sources(&root, &directory.join(ARCHIVE));
     Ok(directory)
 }
 
