@@ -78,7 +78,7 @@ jet ds world room = unless (lengths (length ds) (length world) 6 room 8) (jetSai
 unfoldable pub affineJet : List ℤ → List Float → ℕ → Said Float
 affineJet ds world room = unless (lengths (length ds) (length world) 6 room 8) (jetSaid (calls.affineJetCall (description ds) (box world 0)))
 
--- "a piece is 0 Start, 1 Ramp, 2 End"; another number is refused 1, an entry outside its kinds
+-- 0 Start, 1 Ramp, 2 End, the original's order; another number is refused 1: "entry outside its limits or kinds"
 abbrev pub piece : ℕ → Piece
 piece n = cond (eqb n 0) Start (cond (eqb n 1) Ramp End)
 

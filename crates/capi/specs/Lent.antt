@@ -19,7 +19,7 @@ use Rattle.gyroid.specs.declared.Frame.{Frame}
 abbrev pub wholePoint : List ℤ → ℕ → List ℤ
 wholePoint ns i = at ns i ∷ at ns (i + 1) ∷ at ns (i + 2) ∷ []
 
--- "period a; kind; level kind; anchors `from`, `to`; `start`, `end`; frame rotation w, x, y, z and translation"
+-- "period a; kind ..; level kind ..; anchors `from`, `to`; `start`, `end` ..; frame rotation w, x, y, z and translation"
 unfoldable pub level : List ℤ → Grade
 level ds = record {
   kind = at ds 2;
