@@ -247,6 +247,13 @@ pub over-whole : (z : ℤ) {n : ℕ} (N : 0 < n) → whole z /F n ≈F ratio z n
 unfolding _/F_
 over-whole z {n = suc n} N = record { eq = ring 2 (λ z n. z ⊗ n) (λ z n. z ⊗ (lit (pos 1) ⊗ n)) tt (z ∷ pos (suc n) ∷ []) }
 
+pub over-over : (a : Fraction) {m n : ℕ} → 0 < m → 0 < n → a /F m /F n ≈F a /F (m * n)
+over-over a {m} {n} M N = ≈F-trans (over-is (a /F m) N) (≈F-trans (mul-congF (≈F-refl (a /F m)) (≈F-sym (over-whole (pos 1) N)))
+    (≈F-trans (over-product a oneF M N) (over-cong (NatL.mul-pos M N) (ringF 1 (λ a. a ⊗ lit (pos 1)) (λ a. a) tt (a ∷ [])))))
+
+pub over-neg : (a : Fraction) {n : ℕ} → 0 < n → negF (a /F n) ≈F negF a /F n
+over-neg a {n} N = ≈F-trans (neg-congF (over-is a N)) (≈F-trans (ringF 2 (λ a o. ⊝ (a ⊗ o)) (λ a o. ⊝ a ⊗ o) tt (a ∷ ratio (pos 1) n N ∷ [])) (≈F-sym (over-is (negF a) N)))
+
 -- ---- whole numbers among the fractions
 pub whole-le : {z w : ℤ} → z ≤ℤ w → whole z ≤F whole w
 whole-le h = same-den-le h

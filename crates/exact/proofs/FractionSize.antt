@@ -3,15 +3,16 @@ use mathlib.Core.Bool.{not}
 use mathlib.Core.Logic.{inl, inr}
 use mathlib.Core.Path.{_≡_, refl}
 use mathlib.Core.List.{[], _∷_}
+use Prim.Native.Nat.{ℕ, _<_}
 use lib.Dec.{T}
 use lib.IntN.{pos}
 use lib.Signed.{ltZ-yes, ltZ-no}
-use Rattle.exact.specs.Fraction.{Fraction, zeroF, _+F_, _-F_, _*F_, negF, _≤F_, _≈F_, AbsF, belowF, minF, maxF, heldF}
+use Rattle.exact.specs.Fraction.{Fraction, zeroF, _+F_, _-F_, _*F_, _/F_, negF, _≤F_, _≈F_, AbsF, belowF, minF, maxF, heldF}
 use Rattle.exact.proofs.Choice.{choose}
 use Rattle.exact.proofs.IntegerOrder.{square-nonnegℤ}
 use Rattle.exact.proofs.Ring.{lit, _⊕_, _⊗_, ⊝_}
 use Rattle.exact.proofs.FractionRing.{ringF}
-use Rattle.exact.proofs.Fraction.{≤F-refl, ≤F-trans, <F-le, le-or-ltF, ≈F-le, ≈F-ge, ≤F-antisym, add-monoF, neg-monoF, mul-monoF, sub-is-add, product-low, product-high, nonneg-num, num-nonneg}
+use Rattle.exact.proofs.Fraction.{≤F-refl, ≤F-trans, <F-le, le-or-ltF, ≈F-le, ≈F-ge, ≤F-antisym, add-monoF, neg-monoF, mul-monoF, sub-is-add, product-low, product-high, nonneg-num, num-nonneg, over-mono, over-neg}
 
 -- ---- sizes
 -- what bounds a size is not negative
@@ -37,6 +38,9 @@ pub abs-sub : {x y a b : Fraction} → AbsF x a → AbsF y b → AbsF (x -F y) (
 abs-sub {x} {y} h k =
     let s = abs-add h (abs-neg k) in
     record { low = ≤F-trans (s .low) (≈F-ge (sub-is-add x y)); high = ≤F-trans (≈F-le (sub-is-add x y)) (s .high) }
+
+pub abs-over : {x a : Fraction} {n : ℕ} → 0 < n → AbsF x a → AbsF (x /F n) (a /F n)
+abs-over {a = a} N h = record { low = ≤F-trans (≈F-le (over-neg a N)) (over-mono N (h .low)); high = over-mono N (h .high) }
 
 pub abs-mul : {x y a b : Fraction} → AbsF x a → AbsF y b → AbsF (x *F y) (a *F b)
 abs-mul {x} {y} {a} {b} h k = record {

@@ -3,8 +3,7 @@
 use mathlib.Core.Path.{_≡_, refl, sym, ap, _∙_, subst}
 use mathlib.Core.Bool.{Bool, true, false, not, _&&_}
 use mathlib.Core.List.{List, [], _∷_}
-use Prim.Native.Nat.{ℕ, zero, suc, _<_}
-use native.Mathlib.Omega.{arith}
+use Prim.Native.Nat.{ℕ, _<_}
 use lib.Dec.{T, lit<}
 use lib.IntN.{ℤ, pos, _+ℤ_, _-ℤ_, _*ℤ_}
 use lib.Signed.{ltZ, leZ, leZ-yes}
@@ -24,6 +23,7 @@ use Rattle.grade.specs.Exact.{linearOf, numbers, constantDef, compiled}
 use Rattle.grade.specs.Certified.{only, axisOf, axis, isOne, axisBy, defAxis, planesOn, planes, size, distance}
 use Rattle.grade.specs.Fits.{Within3}
 use Rattle.grade.specs.Holds.{positions}
+use Rattle.grade.proofs.Axes.{three}
 use Rattle.grade.proofs.Entries.{both}
 use Rattle.grade.proofs.Accepted.{by-kind}
 
@@ -65,10 +65,7 @@ planes-below g = go (defAxis g) (below g)
     go Axis.None h = tt
 
 pub within-at : {n : ℕ} {v : List ℤ} → Within3 n v → (i : ℕ) → i < 3 → Within n (at v i)
-within-at h zero l = h .x
-within-at h (suc zero) l = h .y
-within-at h (suc (suc zero)) l = h .z
-within-at h (suc (suc (suc i))) l = absurd (omega arith)
+within-at {n} {v} h = three (λ i. Within n (at v i)) (h .x) (h .y) (h .z)
 
 -- ---- "the positions of `from` and `to` in ticks"
 pub planes-are : (g : Grade) → planes (compiled g) ≡ positions (defAxis (compiled g)) g

@@ -3,8 +3,7 @@ use mathlib.Core.Path.{_≡_, refl}
 use mathlib.Core.Logic.{_⊎_, inl, inr}
 use mathlib.Core.Bool.{Bool, true, false, cond, not}
 use mathlib.Core.List.{List}
-use Prim.Native.Nat.{ℕ, zero, suc, _<_}
-use native.Mathlib.Omega.{arith}
+use Prim.Native.Nat.{ℕ, _<_}
 use lib.Dec.{T, lit<}
 use lib.IntN.{ℤ, pos, _+ℤ_, _-ℤ_, _*ℤ_}
 use lib.Signed.{ltZ, ltZ-yes, ltZ-no, _≤ℤ_, _<ℤ_}
@@ -15,6 +14,7 @@ use Rattle.grade.specs.declared.Linear.{Linear}
 use Rattle.grade.specs.Grade.{at, minus, dot, Point, along}
 use Rattle.grade.specs.Exact.{toward, corner, atCorner}
 use Rattle.grade.specs.Holds.{Inside}
+use Rattle.grade.proofs.Axes.{three}
 
 -- ---- one axis
 module _ (p : Fraction) (f d lo hi : ℤ) (above : whole lo ≤F p) (below : p ≤F whole hi) where
@@ -72,7 +72,4 @@ toward-one d a b = go (ltZ (pos 0) d)
 
 pub corner-ends : (d a b : List ℤ) (i : ℕ) → i < 3 → (at (corner d a b) i ≡ at a i) ⊎ (at (corner d a b) i ≡ at b i)
 unfolding corner
-corner-ends d a b zero l = toward-one (at d 0) (at a 0) (at b 0)
-corner-ends d a b (suc zero) l = toward-one (at d 1) (at a 1) (at b 1)
-corner-ends d a b (suc (suc zero)) l = toward-one (at d 2) (at a 2) (at b 2)
-corner-ends d a b (suc (suc (suc i))) l = absurd (omega arith)
+corner-ends d a b = three (λ i. (at (corner d a b) i ≡ at a i) ⊎ (at (corner d a b) i ≡ at b i)) (toward-one (at d 0) (at a 0) (at b 0)) (toward-one (at d 1) (at a 1) (at b 1)) (toward-one (at d 2) (at a 2) (at b 2))

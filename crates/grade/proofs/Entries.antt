@@ -1,5 +1,5 @@
 -- What passing document 01's limits says of each entry: its size. Assumes nothing.
-use mathlib.Core.Bool.{Bool, true, false, _&&_}
+use mathlib.Core.Bool.{Bool, true, false, not, _&&_, _||_}
 use mathlib.Core.List.{List}
 use lib.Dec.{T}
 use lib.IntN.{ℤ, pos, negsuc}
@@ -13,6 +13,10 @@ use Rattle.grade.specs.Fits.{Within3, InLimits}
 pub both : (a b : Bool) → T (a && b) → T a × T b
 both true b t = (tt, t)
 both false b t = absurd t
+
+pub not-either : (a b : Bool) → T (not (a || b)) → T (not a) × T (not b)
+not-either true b t = absurd t
+not-either false b t = (tt, t)
 
 pub tick-within : (z : ℤ) → T (tick z) → Within 1048576 z
 tick-within z t =

@@ -3,7 +3,7 @@
 use mathlib.Core.Path.{_≡_, refl, sym, subst}
 use mathlib.Core.Bool.{not, _&&_}
 use mathlib.Core.List.{List, [], _∷_}
-use Prim.Native.Nat.{ℕ, zero, suc, _+_, _*_, _^_, _≤_, _<_}
+use Prim.Native.Nat.{ℕ, suc, _*_, _^_, _≤_, _<_}
 use native.Mathlib.Nat.{le-trans}
 use native.Mathlib.Omega.{arith}
 use lib.Dec.{T, leb, le→leb, lit<, lit≤}
@@ -30,6 +30,7 @@ use Rattle.grade.specs.Refusals.{coincident}
 use Rattle.grade.specs.Fits.{Within3, InLimits}
 use Rattle.grade.specs.Intervals.{unit, units, linearIntervals, gradeIntervals, boxAt, alongAxis, parameterOf, parameter, levelOf, interval, affine, pieceOf, piece}
 use Rattle.grade.specs.Holds.{Says, SaysLevel, affineLevel, inUnits}
+use Rattle.grade.proofs.Axes.{three}
 use Rattle.grade.proofs.Entries.{both, Sizes, sizes}
 use Rattle.grade.proofs.Sizes.{minus-within, dot-within}
 use Rattle.grade.proofs.AxisLaws.{within-at}
@@ -42,10 +43,7 @@ unit-encloses : (k : ℕ) (z : ℤ) → T (leb k 1022) → natAbs z ≤ 2 ^ k * 
 unit-encloses k z t h = equal-in (≈F-sym (over-whole z (lit< tt))) (fraction-encloses k (ratio z 1024 (lit< tt)) t h)
 
 units-at : (v : List ℤ) (i : ℕ) → i < 3 → boxAt (units v) i ≡ unit (at v i)
-units-at v zero l = refl
-units-at v (suc zero) l = refl
-units-at v (suc (suc zero)) l = refl
-units-at v (suc (suc (suc i))) l = absurd (omega arith)
+units-at v = three (λ i. boxAt (units v) i ≡ unit (at v i)) refl refl refl
 
 -- ---- t
 module _ (g : Grade) (s : Sizes g) (apart : pos 0 <ℤ lengthSq g) where

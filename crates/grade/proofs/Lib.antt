@@ -2,6 +2,7 @@
 -- an accepted level, and its entries' sizes
 pub mod RefusalLaws
 pub mod Entries
+pub mod Axes
 pub mod Accepted
 -- the level, the range, the piece: exact, over every rational point
 pub mod LevelLaws

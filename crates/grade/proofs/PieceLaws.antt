@@ -1,5 +1,5 @@
 -- What the piece of a box says of t, and so of the level, at every rational point of it. Assumes nothing.
-use mathlib.Core.Path.{sym, subst}
+use mathlib.Core.Path.{sym, subst, subst⁻¹}
 use mathlib.Core.Bool.{Bool, true, false, not, _&&_}
 use mathlib.Core.List.{List}
 use Prim.Native.Nat.{_<_}
@@ -7,7 +7,7 @@ use lib.Dec.{T}
 use lib.IntN.{ℤ, pos, natAbs}
 use lib.Signed.{leZ, leZ-yes, _<ℤ_}
 use Rattle.exact.specs.Fraction.{Fraction, whole, zeroF, oneF, _/F_, _≤F_, _≈F_, heldF}
-use Rattle.exact.proofs.Fraction.{≤F-trans, ≈F-trans, ≈F-le, ≈F-ge, over-mono, over-zero, whole-le}
+use Rattle.exact.proofs.Fraction.{≤F-trans, ≈F-sym, ≈F-trans, ≈F-le, ≈F-ge, over-mono, over-zero, whole-le}
 use Rattle.exact.proofs.FractionSize.{held-low, held-high, held-between}
 use Rattle.grade.specs.declared.Grade.{Grade}
 use Rattle.grade.specs.declared.Piece.the-variants.{Start, Ramp, End}
@@ -16,10 +16,10 @@ use Rattle.grade.specs.declared.PieceAnswer.the-variants.{Found, None}
 use Rattle.grade.specs.Grade.{isLinear, lengthSq, Point, t, between, level}
 use Rattle.grade.specs.Exact.{linearOf, numbers, constantDef, compiled, atCorner, chosen, linearPiece, exactPiece}
 use Rattle.grade.specs.Refusals.{coincident}
-use Rattle.grade.specs.Holds.{Inside, Says, SaysLevel}
+use Rattle.grade.specs.Holds.{Inside, Says, SaysLevel, affineLevel}
 use Rattle.grade.proofs.Entries.{both}
 use Rattle.grade.proofs.Accepted.{linear-apart, by-kind}
-use Rattle.grade.proofs.LevelLaws.{between-cong, between-zero, between-one, level-linear, level-flat, length-pos, over-length}
+use Rattle.grade.proofs.LevelLaws.{between-cong, between-zero, between-one, level-linear, level-flat, affine-linear, affine-flat, length-pos, over-length}
 use Rattle.grade.proofs.CornerLaws.{along-least, along-greatest}
 
 -- ---- from the tests, in their order, to what the piece says
@@ -41,6 +41,10 @@ says-level g p l a h = go a h
     go (Found Ramp) h = held-level (held-between (t g p) oneF (h .0) (h .1))
     go (Found End) h = ≈F-trans (held-level (held-high (t g p) oneF h)) (between-one g)
     go None h = tt
+
+-- on a ramp the level is its affine extension
+pub ramp-affine : (g : Grade) (p : Point) → SaysLevel g p (Found Ramp) → level g p ≈F affineLevel g p
+ramp-affine g p h = by-kind g (λ _. level g p ≈F affineLevel g p) (λ l. subst⁻¹ (λ (q : Fraction). level g p ≈F q) (affine-linear g p l) h) (λ u. ≈F-trans (level-flat g p u) (≈F-sym (affine-flat g p u)))
 
 -- ---- the exact piece
 module _ (g : Grade) (apart : pos 0 <ℤ lengthSq g) (lo hi : List ℤ) (p : Point) (inside : Inside lo hi p) where

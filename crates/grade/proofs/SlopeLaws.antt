@@ -2,7 +2,7 @@
 use mathlib.Core.Path.{_≡_, refl, sym, ap, _∙_, subst}
 use mathlib.Core.Bool.{Bool, true, false, cond, not, _&&_}
 use mathlib.Core.List.{[], _∷_}
-use Prim.Native.Nat.{ℕ, zero, suc, _*_, _≤_, _<_}
+use Prim.Native.Nat.{ℕ, _*_, _≤_, _<_}
 use native.Mathlib.Nat.{le-trans}
 use native.Mathlib.Omega.{arith}
 use lib.Dec.{T}
@@ -21,6 +21,7 @@ use Rattle.grade.specs.Refusals.{coincident}
 use Rattle.grade.specs.Fits.{InLimits}
 use Rattle.grade.specs.Intervals.{slopes, slopeAlong, linearIntervals, gradeIntervals, boxAt, zeros, gradient}
 use Rattle.grade.specs.Holds.{affineLevel, slope}
+use Rattle.grade.proofs.Axes.{three}
 use Rattle.grade.proofs.Entries.{sizes}
 use Rattle.grade.proofs.Sizes.{minus-within}
 use Rattle.grade.proofs.AxisLaws.{within-at}
@@ -51,16 +52,10 @@ slope-flat g i apart u = go (isLinear g) (eqZ (g .start) (g .end)) refl refl u
 -- ---- in intervals
 slopes-at : (g : Grade) (i : ℕ) → i < 3 → boxAt (slopes (numbers g)) i ≡ slopeAlong (numbers g) (at (direction g) i)
 unfolding linearOf
-slopes-at g zero l = refl
-slopes-at g (suc zero) l = refl
-slopes-at g (suc (suc zero)) l = refl
-slopes-at g (suc (suc (suc i))) l = absurd (omega arith)
+slopes-at g = three (λ i. boxAt (slopes (numbers g)) i ≡ slopeAlong (numbers g) (at (direction g) i)) refl refl refl
 
-zeros-at : (i : ℕ) → i < 3 → In 0 zeroF (boxAt zeros i)
-zeros-at zero l = zero-encloses
-zeros-at (suc zero) l = zero-encloses
-zeros-at (suc (suc zero)) l = zero-encloses
-zeros-at (suc (suc (suc i))) l = absurd (omega arith)
+pub zeros-at : (i : ℕ) → i < 3 → In 0 zeroF (boxAt zeros i)
+zeros-at = three (λ i. In 0 zeroF (boxAt zeros i)) zero-encloses zero-encloses zero-encloses
 
 pub gradient-encloses : (g : Grade) → InLimits g → T (not (coincident g)) → (i : ℕ) → i < 3 → In 100 (slope g i) (boxAt (gradient (gradeIntervals (compiled g))) i)
 unfolding gradient gradeIntervals linearIntervals linearOf constantDef

@@ -1,14 +1,14 @@
 -- What the proofs of the public calls share: the leaf behind a refusal of 0, and what a call owes the functions that it calls. Assumes nothing.
-use mathlib.Core.Path.{_≡_, refl, sym, ap, _∙_, subst}
-use mathlib.Core.Bool.{cond, not, _&&_}
+use mathlib.Core.Path.{_≡_, refl, ap, _∙_, subst⁻¹}
+use mathlib.Core.Bool.{not, _&&_}
 use mathlib.Core.List.{List}
 use Prim.Native.Nat.{ℕ, _*_, _^_, _≤_, _<_}
 use native.Mathlib.Omega.{arith}
-use borrow.Author.Tests.{ne-eqb}
-use lib.Dec.{T, eqb}
+use lib.Dec.{T}
 use lib.IntN.{ℤ, pos, natAbs}
 use lib.Ieee.{Float, neg, le, ofBits}
 use Rattle.exact.proofs.Size.{size-above}
+use Rattle.interval.specs.declared.Interval.{Interval}
 use Rattle.interval.specs.Interval.{point}
 use Rattle.interval.specs.Encloses.{Small}
 use Rattle.interval.proofs.Small.{small-between}
@@ -26,12 +26,17 @@ use Rattle.grade.proofs.RefusalLaws.{none-first, none-last, kept, neither}
 use Rattle.gyroid.specs.declared.Description.{Description}
 use Rattle.gyroid.specs.declared.Compiled.{Compiled}
 use Rattle.gyroid.specs.declared.Gyroid.{Gyroid}
+use Rattle.gyroid.specs.declared.Residual.{Residual}
+use Rattle.gyroid.specs.declared.StateAnswer.{StateAnswer}
 use Rattle.gyroid.specs.Refusals.{refusal, between, farthest, allOrdered, allNear, boxRefusal}
 use Rattle.gyroid.specs.Leaf.{leaf, certified}
+use Rattle.gyroid.specs.Residual.{residual, boxState}
+use Rattle.gyroid.specs.Admitted.{tickBox, Holds, Settles}
 use Rattle.gyroid.specs.Fast.{pointAt}
 use Rattle.gyroid.specs.Fits.{FastFits, Near}
-use Rattle.gyroid.specs.Calls.{levelPieceSaid, pieceAnswer, pieceValues, pointBox, levelPieceRefusal, PieceSays}
+use Rattle.gyroid.specs.Calls.{enclosureSaid, levelPieceSaid, residualAnswer, residualValues, pieceAnswer, pieceValues, pointBox, levelPieceRefusal, PieceSays, EnclosureHolds, StateSettles}
 use Rattle.gyroid.proofs.AcceptedLaws.{Passed, accepted}
+use Rattle.gyroid.proofs.EnclosureLaws.{residual-holds, state-settles}
 
 -- ---- what `certified` gave
 pub number-is : (d : Description) {m : Compiled} → m ≡ certified d → m .refusal ≡ refusal d
@@ -73,6 +78,21 @@ piece-says d lo hi e = go (exactPiece (compiled (d .level)) lo hi) (exact-piece-
     go : (a : PieceAnswer) → ((q : Point) → Inside lo hi q → SaysLevel (d .level) q a) → PieceSays d lo hi (pieceAnswer a)
     go (PieceAnswer.Found p) f = f
     go PieceAnswer.None f = tt
+
+-- ---- what `residual` and `box_state` say of the admitted residuals
+pub residual-said : (r : Residual) → enclosureSaid (residualAnswer r) ≡ found (residualValues r)
+residual-said (Residual.Enclosure lo hi) = refl
+residual-said Residual.None = refl
+
+pub enclosure-holds : (d : Description) (w : List Interval) → refusal d ≡ 0 → EnclosureHolds d w (residualAnswer (residual (leaf d) w))
+enclosure-holds d w e = go (residual (leaf d) w) (λ lo hi l h q. subst⁻¹ (λ (x : List Interval). Holds d lo hi (residual (leaf d) x)) q (residual-holds d (record { none = e }) lo hi l h))
+  where
+    go : (r : Residual) → ((lo hi : List ℤ) → T (ticks lo) → T (ticks hi) → w ≡ tickBox lo hi → Holds d lo hi r) → EnclosureHolds d w (residualAnswer r)
+    go (Residual.Enclosure lo hi) f = f
+    go Residual.None f = tt
+
+pub state-settled : (d : Description) (w : List Interval) → refusal d ≡ 0 → StateSettles d w (StateAnswer.Found (boxState (leaf d) w))
+state-settled d w e = λ lo hi l h q. subst⁻¹ (λ (x : List Interval). Settles d lo hi (boxState (leaf d) x)) q (state-settles d (record { none = e }) lo hi l h)
 
 -- ---- what `fast_distance` has tested
 turns-small : (d : Description) → Passed d → Small 10 (leaf d .«fast_turns»)

@@ -1,9 +1,10 @@
 -- The public calls: document 01's number and values for each case of an answer, and what each call says of any input.
 -- Definitions only; assumes nothing.
+use mathlib.Core.Path.{_≡_}
 use mathlib.Core.Bool.{Bool, true, false, cond, not, _&&_}
 use mathlib.Core.List.{List, [], _∷_}
 use Prim.Native.Nat.{ℕ}
-use lib.Dec.{eqb}
+use lib.Dec.{T, eqb}
 use lib.IntN.{ℤ, pos, negsuc}
 use lib.Signed.{leZ}
 use lib.Ieee.{Float}
@@ -38,6 +39,7 @@ use Rattle.gyroid.specs.Refusals.{refusal, boxRefusal, finiteBoxRefusal,
 use Rattle.gyroid.specs.Leaf.{leaf}
 use Rattle.gyroid.specs.Jet.{noJet, jet, affineJet}
 use Rattle.gyroid.specs.Residual.{residual, affineResidual, boxState}
+use Rattle.gyroid.specs.Admitted.{tickBox, Holds, Settles}
 use Rattle.gyroid.specs.Facet.{curvature, facetResidual}
 use Rattle.gyroid.specs.Derivatives.{noDerivatives, derivatives}
 use Rattle.gyroid.specs.Fast.{pointAt, fastDistance}
@@ -91,6 +93,10 @@ ends i = i .lo ∷ i .hi ∷ []
 abbrev pub residualValues : Residual → List Float
 residualValues (Enclosure lo hi) = lo ∷ hi ∷ []
 residualValues None = []
+
+abbrev pub residualAnswer : Residual → EnclosureAnswer
+residualAnswer (Enclosure lo hi) = EnclosureAnswer.Found lo hi
+residualAnswer None = EnclosureAnswer.None
 
 abbrev pub pieceAnswer : PieceAnswer → LevelPieceAnswer
 pieceAnswer (PieceAnswer.Found p) = LevelPieceAnswer.Found p
@@ -165,11 +171,22 @@ derivativesCall d w piece =
 unfoldable pub residualCall : Description → List Interval → Said Float
 residualCall d w = answered (refusal d orElse finiteBoxRefusal w) (residualValues (residual (leaf d) w))
 
+-- over a box of whole ticks an enclosure that is found holds every admitted residual
+abbrev pub EnclosureHolds : Description → List Interval → EnclosureAnswer → Type 0
+EnclosureHolds d w (EnclosureAnswer.Refused n) = Unit {0}
+EnclosureHolds d w (EnclosureAnswer.Found l h) = (lo hi : List ℤ) → T (ticks lo) → T (ticks hi) → w ≡ tickBox lo hi → Holds d lo hi (Enclosure l h)
+EnclosureHolds d w EnclosureAnswer.None = Unit {0}
+
 unfoldable pub affineResidualCall : Description → List Interval → Said Float
 affineResidualCall d w = answered (refusal d orElse finiteBoxRefusal w) (residualValues (affineResidual (leaf d) w))
 
 unfoldable pub boxStateCall : Description → List Interval → Said ℕ
 boxStateCall d w = answered (refusal d orElse finiteBoxRefusal w) (stateNumber (boxState (leaf d) w) ∷ [])
+
+-- and a state says the sign of all of them
+abbrev pub StateSettles : Description → List Interval → StateAnswer → Type 0
+StateSettles d w (StateAnswer.Refused n) = Unit {0}
+StateSettles d w (StateAnswer.Found s) = (lo hi : List ℤ) → T (ticks lo) → T (ticks hi) → w ≡ tickBox lo hi → Settles d lo hi s
 
 unfoldable pub facetResidualCall : Description → List (List Interval) → Said Float
 facetResidualCall d c = answered (refusal d orElse triangleRefusal c) (residualValues (facetResidual (leaf d) c))

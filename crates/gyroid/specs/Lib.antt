@@ -7,6 +7,7 @@ pub mod Leaf
 pub mod Turn
 pub mod Jet
 pub mod Residual
+pub mod Admitted
 -- "Beside the walk"
 pub mod Facet
 pub mod Derivatives

@@ -24,6 +24,10 @@ largestTurn = b64 0x4270_0000_0000_0000
 abbrev pub reducible : Interval → Bool
 reducible t = lt (neg largestTurn) (t .lo) && lt (t .lo) largestTurn && lt (neg largestTurn) (t .hi) && lt (t .hi) largestTurn
 
+-- "Its quarter number is the floor of mid × 4 + 0.5."
+abbrev pub quarterOf : Interval → ℤ
+quarterOf t = quarterNumber (mid t)
+
 -- the quarter number taken off, as an angle; each product of points steps
 unfoldable pub reduced : Interval → ℤ → Interval → Interval
 reduced t q twoPi = product (difference t (product (point (nearest q 1)) (point (b64 0x3fd0_0000_0000_0000)))) twoPi
@@ -58,6 +62,6 @@ turned m s c =
 
 unfoldable pub turn : Gyroid → Interval → Turn
 turn g t =
-    let q = quarterNumber (mid t) in
+    let q = quarterOf t in
     let u = reduced t q (g .«two_pi») in
     cond (not (reducible t)) None (cond (beyond u) None (turned (modFour q) (sineAt g u) (cosineAt g u)))

@@ -1,7 +1,7 @@
 // What the layer answers, as the public calls answer it.
 ghost use mathlib.Core.Path.{_≡_};
 ghost use Rattle.grade.specs.Said.{found};
-ghost use Rattle.gyroid.specs.Calls.{enclosureSaid, truthSaid, planesSaid, ends, residualValues, pieceAnswer, planesValues, saturatedBy};
+ghost use Rattle.gyroid.specs.Calls.{enclosureSaid, truthSaid, planesSaid, ends, residualAnswer, pieceAnswer, planesValues, saturatedBy};
 use crate::EnclosureAnswer;
 use crate::LevelPieceAnswer;
 use crate::PlanesAnswer;
@@ -20,7 +20,7 @@ pub fn enclosure(v: Interval) -> EnclosureAnswer
 
 impl Residual {
     pub fn answer(self) -> EnclosureAnswer
-        ensures { λ r. ⌜ enclosureSaid r ≡ found (residualValues self) ⌝ }
+        ensures { λ r. ⌜ r ≡ residualAnswer self ⌝ }
     {
         match self {
             Residual::Enclosure { lo, hi } => EnclosureAnswer::Found { lo, hi },

@@ -1,7 +1,7 @@
 // The public calls: each takes a description, refuses by document 01's numbers and answers any input. Each compiles its description; none
 // keeps anything.
 ghost use mathlib.Core.Path.{_≡_};
-ghost use Rattle.gyroid.specs.Calls.{enclosureSaid, stateSaid, levelPieceSaid, truthSaid, planesSaid, doubleSaid, gradedCall, saturatedCall, planesCall, curvatureCall, lipschitzCall, levelPieceCall, PieceSays, jetCall, affineJetCall, derivativesCall, residualCall, affineResidualCall, boxStateCall, facetResidualCall, fastCall, fastDistanceCall};
+ghost use Rattle.gyroid.specs.Calls.{enclosureSaid, stateSaid, levelPieceSaid, truthSaid, planesSaid, doubleSaid, gradedCall, saturatedCall, planesCall, curvatureCall, lipschitzCall, levelPieceCall, PieceSays, jetCall, affineJetCall, derivativesCall, residualCall, EnclosureHolds, affineResidualCall, boxStateCall, StateSettles, facetResidualCall, fastCall, fastDistanceCall};
 use crate::Derivatives;
 use crate::Description;
 use crate::DoubleAnswer;
@@ -151,7 +151,8 @@ pub fn derivatives(description: Description, world: [Interval; 3], piece: Piece)
 }
 
 pub fn residual(description: Description, world: [Interval; 3]) -> EnclosureAnswer
-    ensures { λ r. ⌜ enclosureSaid r ≡ residualCall description world ⌝ }
+    ensures answer { λ r. ⌜ enclosureSaid r ≡ residualCall description world ⌝ }
+    ensures holds { λ r. ⌜ EnclosureHolds description world r ⌝ }
 {
     let made = Gyroid::certified(description);
     let number = or_else(made.refusal, finite_box_refusal(world));
@@ -175,7 +176,8 @@ pub fn affine_residual(description: Description, world: [Interval; 3]) -> Enclos
 }
 
 pub fn box_state(description: Description, world: [Interval; 3]) -> StateAnswer
-    ensures { λ r. ⌜ stateSaid r ≡ boxStateCall description world ⌝ }
+    ensures answer { λ r. ⌜ stateSaid r ≡ boxStateCall description world ⌝ }
+    ensures settles { λ r. ⌜ StateSettles description world r ⌝ }
 {
     let made = Gyroid::certified(description);
     let number = or_else(made.refusal, finite_box_refusal(world));

@@ -1,15 +1,17 @@
 -- Sizes of single doubles: a product's, a middle's, a fraction's nearest; and of a quarter number. A rounding keeps a bound 2 ^ k. Assumes
 -- nothing.
-use mathlib.Core.Path.{refl, subst, subst⁻¹}
-use Prim.Native.Nat.{ℕ, suc, _+_, _*_, _^_, _≤_, _<_}
-use native.Mathlib.Nat.{add-zero}
+use mathlib.Core.Path.{subst}
+use mathlib.Core.Bool.{true, false}
+use Prim.Native.Nat.{ℕ, suc, _+_, _-_, _*_, _/_, _^_, _≤_, _<_}
+use native.Mathlib.Nat.{add-zero, div-lt-iff-lt-mul}
+use native.Mathlib.Omega.{arith}
 use lib.Dec.{T, leb, leb→le, lit≤}
-use lib.IntN.{ℤ, pos, natAbs, _-ℤ_}
-use lib.Ieee.{Float, binary64, add, mul, lt, ofBits, ofInt, toSigned}
+use lib.IntN.{ℤ, pos, natAbs}
+use lib.Ieee.{Float, nan, inf, fin, binary64, add, mul, ofBits, up, down}
+use lib.Ieee.Fits.{down-pos}
 use Rattle.exact.specs.Fraction.{ratio}
 use Rattle.exact.specs.Within.{Within}
-use Rattle.exact.proofs.Choice.{choose}
-use Rattle.exact.proofs.Size.{within-self, within-sub, within-more}
+use Rattle.exact.proofs.Size.{within-neg}
 use Rattle.interval.specs.declared.Interval.{Interval}
 use Rattle.interval.specs.Step.{b64}
 use Rattle.interval.specs.Interval.{mid}
@@ -17,9 +19,8 @@ use Rattle.interval.specs.Nearest.{nearest}
 use Rattle.interval.specs.Floor.{floor, quarterNumber}
 use Rattle.interval.specs.Encloses.{Small}
 use Rattle.interval.proofs.Rounding.{rounds-fits}
-use Rattle.interval.proofs.Small.{abs-ratio, small-finite}
+use Rattle.interval.proofs.Small.{abs-ratio}
 use Rattle.interval.proofs.Operations.{nearest-rounds}
-use Rattle.interval.proofs.FloorCode.{cut, floor-is}
 use Rattle.interval.proofs.QuarterCode.{quarter-small}
 use Rattle.interval.proofs.Candidates.{candidate, sum-candidate, product-candidate}
 
@@ -45,15 +46,25 @@ nearest-small k z d t D h =
     let r = nearest-rounds z d D in
     candidate k (leb→le k 1022 t) r (rounds-fits r) (abs-ratio k (ratio z d D) h) .small
 
--- ---- the quarter number of a turn below 2 ^ 50
-floor-within : (x : Float) → Small 53 x → Within 0x20_0000_0000_0001 (floor x)
-floor-within x h =
-    let k = toSigned 63 x in
-    let c = cut x h in
-    let u = lt x (ofInt binary64 k) in
-    subst⁻¹ (Within 0x20_0000_0000_0001) (floor-is x k u (small-finite 53 x h) c refl)
-    (choose u (k -ℤ pos 1) k (Within 0x20_0000_0000_0001) (λ _. within-sub (c .size) (within-self (pos 1))) (λ _. within-more tt (c .size)))
+-- ---- the floor keeps a bound 2 ^ k, and the quarter number with it
+div-most : (p n d : ℕ) → 0 < d → n < (p + 1) * d → n / d ≤ p
+div-most p n d D h = less (n / d) (div-lt-iff-lt-mul D .1 h)
+  where
+    less : (m : ℕ) → m < p + 1 → m ≤ p
+    less m h = omega arith
 
-pub quarter-within : (t : Float) → Small 50 t → Within 0x20_0000_0000_0001 (quarterNumber t)
+pub floor-small : (k : ℕ) (x : Float) → Small k x → Within (2 ^ k) (floor x)
+floor-small k nan h = absurd h
+floor-small k (inf s) h = absurd h
+floor-small k (fin false m e) h = record { abs = div-most (2 ^ k) (m * up e) (down e) (down-pos e) (room (2 ^ k) (m * up e) (down e) (down-pos e) h) }
+  where
+    room : (p a d : ℕ) → 0 < d → a ≤ p * d → a < (p + 1) * d
+    room p a d D h = omega arith
+floor-small k (fin true m e) h = within-neg {a = pos ((m * up e + (down e - 1)) / down e)} (record { abs = div-most (2 ^ k) (m * up e + (down e - 1)) (down e) (down-pos e) (room (2 ^ k) (m * up e) (down e) (down-pos e) h) })
+  where
+    room : (p a d : ℕ) → 0 < d → a ≤ p * d → a + (d - 1) < (p + 1) * d
+    room p a d D h = omega arith
+
+pub quarter-within : (k : ℕ) (t : Float) → T (leb (suc (k + 2)) 1022) → Small k t → Within (2 ^ suc (k + 2)) (quarterNumber t)
 unfolding quarterNumber
-quarter-within t h = floor-within (add binary64 (mul binary64 t (b64 0x4010_0000_0000_0000)) (b64 0x3fe0_0000_0000_0000)) (quarter-small t h)
+quarter-within k t u h = floor-small (suc (k + 2)) (add binary64 (mul binary64 t (b64 0x4010_0000_0000_0000)) (b64 0x3fe0_0000_0000_0000)) (quarter-small k t u h)

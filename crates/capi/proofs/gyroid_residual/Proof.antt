@@ -27,7 +27,7 @@ same-length c = search needs
 returns-2 : tie.Need-returns-2
 unfolding residual
 returns-2 c = passed _ _ _ _ _ _ _ (c .before .before .before .before .before .before .before .before .lengths .ensures) (c .before .before .before .before .before .before .before .if1 .left)
-    (c .before .before .before .before .residual .ensures ∙ (λ k. residualCall (c .before .before .before .before .before .before .describe .ensures k) (c .before .before .before .before .before .world-at .ensures k)))
+    (c .before .before .before .before .residual .ensures .0 ∙ (λ k. residualCall (c .before .before .before .before .before .before .describe .ensures k) (c .before .before .before .before .before .world-at .ensures k)))
     (c .before .before .put-enclosure .ensures .0) (c .before .before .put-enclosure .ensures .1)
 
 pub gyroid-residual-spec : {M : Type 1} → statement M

@@ -39,7 +39,7 @@ returns-2 c =
     let c6 = c5 .before in
     let c7 = c6 .before in
     let small = mid-turn-small (c7 .args .t) (left-true (c6 .reducible .ensures) (c5 .if1 .left)) in
-    let q = through (c3 .quarter-number .ensures ∙ ap quarterNumber (c4 .mid .ensures)) (is (quarter-within _ small)) in
+    let q = through (c3 .quarter-number .ensures ∙ ap quarterNumber (c4 .mid .ensures)) (is (quarter-within 50 _ tt small)) in
     rw (← c6 .reducible .ensures, c5 .if1 .left, ← bit tt q .same, ← c .before .before .reduced .ensures, ← c .before .beyond .ensures, c .if2 .taken)
 
 circle-requires : tie.Need-circle-requires
@@ -57,7 +57,7 @@ returns-3 c =
     let c9 = c8 .before in
     let c10 = c9 .before in
     let small = mid-turn-small (c10 .args .t) (left-true (c9 .reducible .ensures) (c8 .if1 .left)) in
-    let q = through (c6 .quarter-number .ensures ∙ ap quarterNumber (c7 .mid .ensures)) (is (quarter-within _ small)) in
+    let q = through (c6 .quarter-number .ensures ∙ ap quarterNumber (c7 .mid .ensures)) (is (quarter-within 50 _ tt small)) in
     rw (c .turned .ensures, c .before .modulo-four .ensures, c .before .before .circle .ensures, ← c9 .reducible .ensures, c8 .if1 .left, ← bit tt q .same, ← c5 .reduced .ensures, ← c4 .beyond .ensures, c3 .if2 .left)
 
 pub turn-spec : {M : Type 1} → statement M

@@ -3,10 +3,11 @@ use mathlib.Core.Path.{sym, ap, ap₂, _∙_}
 use borrow.Author.Needs.{needs}
 use Rattle.grade.specs.Refusals.{_orElse_}
 use Rattle.grade.proofs.RefusalLaws.{neither, refused-is, answer-is}
-use Rattle.grade.specs.Said.{found, refusing}
-use Rattle.gyroid.specs.Calls.{residualValues, affineResidualCall}
+use Rattle.grade.specs.Said.{refusing}
+use Rattle.gyroid.specs.Leaf.{leaf}
+use Rattle.gyroid.specs.Calls.{enclosureSaid, residualAnswer, affineResidualCall}
 use Rattle.gyroid.specs.Residual.{affineResidual}
-use Rattle.gyroid.proofs.CallLaws.{number-is, leaf-is}
+use Rattle.gyroid.proofs.CallLaws.{number-is, leaf-is, residual-said}
 use Rattle.gyroid.proofs.calls.affine_residual.Statement.{statement}
 use Rattle.gyroid.proofs.calls.affine_residual.Tie as tie
 
@@ -40,7 +41,7 @@ returns-2 c =
     let n = c4 .or-else .ensures ∙ ap₂ _orElse_ (number-is d (c6 .certified .ensures)) (c5 .finite-box-refusal .ensures) in
     let (z, _) = neither _ _ (sym n ∙ c3 .if1 .left) in
     let l = leaf-is d (c6 .certified .ensures) z in
-    answer-is _ n (c3 .if1 .left) (c .answer .ensures ∙ ap (λ r. found (residualValues r)) (c .before .affine-residual .ensures ∙ ap (λ g. affineResidual g (c7 .args .world)) l))
+    answer-is _ n (c3 .if1 .left) (ap enclosureSaid (c .answer .ensures ∙ ap residualAnswer (c .before .affine-residual .ensures ∙ ap (λ g. affineResidual g (c7 .args .world)) l)) ∙ residual-said (affineResidual (leaf d) (c7 .args .world)))
 
 pub affine-residual-spec : {M : Type 1} → statement M
 affine-residual-spec =

@@ -1,12 +1,13 @@
 -- By the refusals; a leaf behind a refusal of 0 is the description's. Assumes nothing.
-use mathlib.Core.Path.{sym, ap, ap₂, _∙_}
+use mathlib.Core.Path.{sym, ap, ap₂, _∙_, subst⁻¹}
 use borrow.Author.Needs.{needs}
 use Rattle.grade.specs.Refusals.{_orElse_}
 use Rattle.grade.proofs.RefusalLaws.{neither, refused-is, answer-is}
-use Rattle.grade.specs.Said.{found, refusing}
-use Rattle.gyroid.specs.Calls.{residualValues, residualCall}
+use Rattle.grade.specs.Said.{refusing}
+use Rattle.gyroid.specs.Leaf.{leaf}
+use Rattle.gyroid.specs.Calls.{enclosureSaid, residualAnswer, residualCall, EnclosureHolds}
 use Rattle.gyroid.specs.Residual.{residual}
-use Rattle.gyroid.proofs.CallLaws.{number-is, leaf-is}
+use Rattle.gyroid.proofs.CallLaws.{number-is, leaf-is, residual-said, enclosure-holds}
 use Rattle.gyroid.proofs.calls.residual.Statement.{statement}
 use Rattle.gyroid.proofs.calls.residual.Tie as tie
 
@@ -20,7 +21,7 @@ returns c =
     let c4 = c3 .before in
     let d = c4 .args .description in
     let n = c .before .or-else .ensures ∙ ap₂ _orElse_ (number-is d (c3 .certified .ensures)) (c .before .before .finite-box-refusal .ensures) in
-    refused-is (λ k. refusing k) _ n (c .if1 .taken)
+    (refused-is (λ k. refusing k) _ n (c .if1 .taken), tt)
 
 residual-requires : tie.Need-residual-requires
 residual-requires c κs = search needs
@@ -40,7 +41,8 @@ returns-2 c =
     let n = c4 .or-else .ensures ∙ ap₂ _orElse_ (number-is d (c6 .certified .ensures)) (c5 .finite-box-refusal .ensures) in
     let (z, _) = neither _ _ (sym n ∙ c3 .if1 .left) in
     let l = leaf-is d (c6 .certified .ensures) z in
-    answer-is _ n (c3 .if1 .left) (c .answer .ensures ∙ ap (λ r. found (residualValues r)) (c .before .residual .ensures ∙ ap (λ g. residual g (c7 .args .world)) l))
+    let e = c .answer .ensures ∙ ap residualAnswer (c .before .residual .ensures ∙ ap (λ g. residual g (c7 .args .world)) l) in
+    (answer-is _ n (c3 .if1 .left) (ap enclosureSaid e ∙ residual-said (residual (leaf d) (c7 .args .world))), subst⁻¹ (EnclosureHolds d (c7 .args .world)) e (enclosure-holds d (c7 .args .world) z))
 
 pub residual-spec : {M : Type 1} → statement M
 residual-spec =

@@ -15,7 +15,7 @@ returns c =
     let c4 = c3 .before in
     let c5 = c4 .before in
     let small = product-small 40 10 (c5 .args .x) (c5 .args .turns) tt (c5 .pre .0) (c5 .pre .1) in
-    let q = bit tt (through (c4 .quarter-number .ensures) (is (quarter-within _ small))) in
+    let q = bit tt (through (c4 .quarter-number .ensures) (is (quarter-within 50 _ tt small))) in
     rw (c .fast-turned .ensures, c .before .modulo-four .ensures, c .before .before .fast-circle .ensures, c3 .fast-reduced .ensures, q .same)
 
 pub fast-turn-spec : {M : Type 1} → statement M

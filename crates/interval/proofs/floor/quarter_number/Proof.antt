@@ -6,7 +6,7 @@ use Rattle.interval.proofs.floor.quarter_number.Statement.{statement}
 use Rattle.interval.proofs.floor.quarter_number.Tie as tie
 
 floor-requires : tie.Need-floor-requires
-floor-requires c κs = quarter-small (c .args .t) (c .pre)
+floor-requires c κs = quarter-small 50 (c .args .t) tt (c .pre)
 
 returns : tie.Need-returns
 unfolding quarterNumber

@@ -1,0 +1,73 @@
+-- One admitted residual, worked by computation: a ramp along y, a box whose quarter numbers are 1, 2 and −1, and a choice in which every error and e are
+-- used. The fractions were worked out by a script of its own. Assumes nothing.
+use mathlib.Core.Path.{_≡_, refl}
+use mathlib.Core.List.{List, [], _∷_}
+use Prim.Native.Nat.{ℕ, zero, suc}
+use lib.Dec.{lit<}
+use lib.IntN.{ℤ, pos, negsuc}
+use lib.Signed.{leZ-yes}
+use lib.Ieee.{ofBits, toBits, isNan, neg, add, mul, lt, round}
+use Rattle.exact.specs.Fraction.{Fraction, ratio, _+F_, _-F_, _*F_, _/F_, negF, _≈F_, AbsF, minF, maxF, heldF}
+use Rattle.interval.specs.Step.{nextUp, nextDown}
+use Rattle.interval.specs.Interval.{product, mid}
+use Rattle.interval.specs.Nearest.{fromRational}
+use Rattle.interval.specs.Floor.{quarterNumber}
+use Rattle.grade.specs.Grade.{minus, dot, Point, along, t, level}
+use Rattle.grade.proofs.Axes.{three}
+use Rattle.gyroid.specs.declared.Description.{Description}
+use Rattle.gyroid.specs.Admitted.{sinePolynomial, cosinePolynomial, sineTail, cosineTail, turned, Chosen, quarter, waves, admitted}
+
+abbrev description : Description
+description = record {
+  period = pos 3000;
+  kind = pos 0;
+  level = record { kind = pos 1; from = pos 0 ∷ pos 0 ∷ pos 0 ∷ []; to = pos 0 ∷ pos 10240 ∷ pos 0 ∷ []; start = negsuc 255; end = pos 256 };
+  frame = record { w = pos 1; x = pos 0; y = pos 0; z = pos 0; translation = pos 0 ∷ pos 0 ∷ pos 0 ∷ [] };
+}
+
+abbrev lows : List ℤ
+lows = pos 745 ∷ pos 1500 ∷ negsuc 756 ∷ []
+
+abbrev highs : List ℤ
+highs = pos 751 ∷ pos 1502 ∷ negsuc 738 ∷ []
+
+quarters : (quarter description lows highs 0 ≡ pos 1) × (quarter description lows highs 1 ≡ pos 2) × (quarter description lows highs 2 ≡ negsuc 0)
+unfolding ofBits toBits isNan neg add mul lt round nextUp nextDown product mid fromRational quarterNumber
+quarters = (refl, refl, refl)
+
+-- ---- what is chosen
+abbrev sine-error : ℕ → Fraction
+sine-error zero = ratio (pos 2097152) 35403383781909942626953125 (lit< tt)
+sine-error (suc zero) = ratio (pos 0) 1 (lit< tt)
+sine-error (suc (suc i)) = ratio (negsuc 4194303) 35403383781909942626953125 (lit< tt)
+
+abbrev cosine-error : ℕ → Fraction
+cosine-error zero = ratio (negsuc 1048575) 372667197704315185546875 (lit< tt)
+cosine-error (suc zero) = ratio (pos 1048576) 372667197704315185546875 (lit< tt)
+cosine-error (suc (suc i)) = ratio (pos 1048576) 2608670383930206298828125 (lit< tt)
+
+abbrev e : Fraction
+e = ratio (negsuc 196438696506812772) 688963889188669612500 (lit< tt)
+
+chosen : Chosen description lows highs
+unfolding ofBits _+F_ _*F_ _/F_ negF
+chosen = record {
+  w = ratio (pos 491701844) 78256779 (lit< tt);
+  sine-error = sine-error;
+  cosine-error = cosine-error;
+  e = e;
+  w-between = record { above = record { le = leZ-yes tt }; below = record { le = leZ-yes tt } };
+  sine-within = three (λ i. AbsF (sine-error i) sineTail) (record { low = record { le = leZ-yes tt }; high = record { le = leZ-yes tt } }) (record { low = record { le = leZ-yes tt }; high = record { le = leZ-yes tt } }) (record { low = record { le = leZ-yes tt }; high = record { le = leZ-yes tt } });
+  cosine-within = three (λ i. AbsF (cosine-error i) cosineTail) (record { low = record { le = leZ-yes tt }; high = record { le = leZ-yes tt } }) (record { low = record { le = leZ-yes tt }; high = record { le = leZ-yes tt } }) (record { low = record { le = leZ-yes tt }; high = record { le = leZ-yes tt } });
+  e-within = record { low = record { le = leZ-yes tt }; high = record { le = leZ-yes tt } };
+}
+
+-- ---- where, and the admitted residual there
+abbrev place : Point
+place zero = ratio (pos 5241) 7 (lit< tt)
+place (suc zero) = ratio (pos 1501) 1 (lit< tt)
+place (suc (suc i)) = ratio (negsuc 2244) 3 (lit< tt)
+
+worked : admitted description lows highs chosen place ≈F ratio (negsuc 3365019240659292241864226673714572454509894885505980170177925093520307341932995301204266079029995641029157439448075721387536749223516626144171916723019502247650081074956232577440954313969055350041702508672743599468443868035877023458282323256993319545795850761354428827907674361832145976517723269900441836790267411921210355185834390288029000199087100783601808366167716530591096136791758226918882753119415782) 4072534404815028044062559070606464689805027151055716675470784334748827469412966303584162543254493039081290503651438957808431989410764292244292756598295121800554710604115172645927550362602042878074069487809379681178463170104843416434030441353540868190290163508969707644173888731147584714040825212678089861682518845061549972452752399476594291627407073974609375000000000000000000000000000000000000000000000000 (lit< tt)
+unfolding chosen ofBits toBits isNan neg add mul lt round nextUp nextDown product mid fromRational quarterNumber _+F_ _-F_ _*F_ _/F_ negF minF maxF heldF minus dot along t level turned sinePolynomial cosinePolynomial waves admitted
+worked = record { eq = refl }

@@ -1,0 +1,92 @@
+-- There is something to choose: every box has an admitted residual at each of its points, and a box that is settled has one of the sign that
+-- its state says. So no statement about all of them is empty. Assumes nothing.
+use mathlib.Core.Path.{_≡_, subst}
+use mathlib.Core.Bool.{not, _||_}
+use mathlib.Core.List.{List, [], _∷_}
+use Prim.Native.Nat.{ℕ}
+use lib.Dec.{T, lit<}
+use lib.IntN.{ℤ, pos}
+use lib.Signed.{ltZ, leZ-yes, ltZ-no}
+use lib.Ieee.{ofBits}
+use Rattle.exact.specs.Fraction.{Fraction, whole, zeroF, _+F_, _*F_, _≤F_, _<F_, AbsF}
+use Rattle.exact.proofs.Ring.{lit, _⊕_, _⊗_}
+use Rattle.exact.proofs.FractionRing.{ringF}
+use Rattle.exact.proofs.Fraction.{≤F-refl, ≤F-trans, ≈F-le, ≈F-ge, add-monoF, over-mono, over-zero, num-nonneg, whole-le}
+use Rattle.exact.proofs.FractionSize.{abs-of-nonneg, square-nonneg}
+use Rattle.interval.specs.Interval.{twoPi}
+use Rattle.interval.specs.Encloses.{value, _∈_}
+use Rattle.grade.specs.Grade.{at, Point, ticks}
+use Rattle.grade.specs.Refusals.{above}
+use Rattle.grade.specs.Holds.{Inside}
+use Rattle.grade.proofs.Entries.{not-either}
+use Rattle.grade.proofs.Axes.{three}
+use Rattle.gyroid.specs.declared.Description.{Description}
+use Rattle.gyroid.specs.declared.State.{State}
+use Rattle.gyroid.specs.Fits.{Accepted}
+use Rattle.gyroid.specs.Leaf.{leaf}
+use Rattle.gyroid.specs.Residual.{boxState}
+use Rattle.gyroid.specs.Admitted.{halfWidth, tickBox, bracket, Chosen, wave, Settles, Some}
+use Rattle.gyroid.proofs.CentreLaws.{doubled}
+use Rattle.gyroid.proofs.ExpansionLaws.{bracket-scaled}
+use Rattle.gyroid.proofs.EnclosureLaws.{state-settles}
+
+-- ---- zero is a choice for each error and for e
+zero-within : {a : Fraction} → zeroF ≤F a → AbsF zeroF a
+zero-within h = abs-of-nonneg (≤F-refl zeroF) h
+
+-- twice the bracket is (x + y)² + (y + z)² + (z + x)²
+bracket-nonneg : (x y z : Fraction) → zeroF ≤F bracket x y z
+bracket-nonneg x y z = ≤F-trans (≈F-ge (over-zero (lit< tt))) (≤F-trans (over-mono (lit< tt) squares) (≈F-le (doubled (bracket x y z))))
+  where
+    squares : zeroF ≤F bracket x y z +F bracket x y z
+    squares = ≤F-trans (≈F-le (ringF 3 (λ x y z. lit (pos 0)) (λ x y z. lit (pos 0) ⊕ lit (pos 0) ⊕ lit (pos 0)) tt (x ∷ y ∷ z ∷ [])))
+        (≤F-trans (add-monoF (add-monoF (square-nonneg (x +F y)) (square-nonneg (y +F z))) (square-nonneg (z +F x)))
+        (≈F-le (ringF 3 (λ x y z. (x ⊕ y) ⊗ (x ⊕ y) ⊕ (y ⊕ z) ⊗ (y ⊕ z) ⊕ (z ⊕ x) ⊗ (z ⊕ x))
+        (λ x y z. x ⊗ x ⊕ y ⊗ y ⊕ z ⊗ z ⊕ x ⊗ y ⊕ y ⊗ z ⊕ z ⊗ x ⊕ (x ⊗ x ⊕ y ⊗ y ⊕ z ⊗ z ⊕ x ⊗ y ⊕ y ⊗ z ⊕ z ⊗ x)) tt (x ∷ y ∷ z ∷ []))))
+
+two-pi-between : value (twoPi .lo) ∈ twoPi
+unfolding ofBits
+two-pi-between = record { above = ≤F-refl (value (twoPi .lo)); below = record { le = leZ-yes tt } }
+
+-- the lower end of `two_pi`, and no error
+pub chosen : (d : Description) (lo hi : List ℤ) → Chosen d lo hi
+chosen d lo hi = record {
+  w = value (twoPi .lo);
+  sine-error = λ i. zeroF;
+  cosine-error = λ i. zeroF;
+  e = zeroF;
+  w-between = two-pi-between;
+  sine-within = λ i b. zero-within (num-nonneg (leZ-yes tt));
+  cosine-within = λ i b. zero-within (num-nonneg (leZ-yes tt));
+  e-within = zero-within (≤F-trans (bracket-nonneg (k *F r 0) (k *F r 1) (k *F r 2)) (≈F-ge (bracket-scaled k (r 0) (r 1) (r 2))));
+}
+  where
+    k : Fraction
+    k = wave d lo hi (value (twoPi .lo))
+
+    r : ℕ → Fraction
+    r i = halfWidth lo hi i
+
+-- ---- a point of a box whose lows are not above its highs: its lowest corner
+pub corner-inside : (lo hi : List ℤ) → T (not (above lo hi)) → Inside lo hi (λ i. whole (at lo i))
+corner-inside lo hi t =
+    let (s, z) = not-either (ltZ (at hi 0) (at lo 0) || ltZ (at hi 1) (at lo 1)) (ltZ (at hi 2) (at lo 2)) t in
+    let (x, y) = not-either (ltZ (at hi 0) (at lo 0)) (ltZ (at hi 1) (at lo 1)) s in
+    record {
+      above = λ i _. ≤F-refl (whole (at lo i));
+      below = three (λ i. whole (at lo i) ≤F whole (at hi i)) (whole-le (ltZ-no x)) (whole-le (ltZ-no y)) (whole-le (ltZ-no z));
+    }
+
+-- ---- so a settled box has an admitted residual, of the sign that its state says
+module _ (d : Description) (none : Accepted d) (lo hi : List ℤ) (low-ticks : T (ticks lo)) (high-ticks : T (ticks hi)) (order : T (not (above lo hi))) where
+  abbrev corner : Point
+  corner i = whole (at lo i)
+
+  settles : (s : State) → boxState (leaf d) (tickBox lo hi) ≡ s → Settles d lo hi s
+  settles s e = subst (Settles d lo hi) e (state-settles d none lo hi low-ticks high-ticks)
+
+  pub inside-some : boxState (leaf d) (tickBox lo hi) ≡ State.Inside → Some d lo hi (λ q. q <F zeroF)
+  inside-some e = record { p = corner; inside = corner-inside lo hi order; chosen = chosen d lo hi; says = settles State.Inside e corner (corner-inside lo hi order) (chosen d lo hi) }
+
+  pub outside-some : boxState (leaf d) (tickBox lo hi) ≡ State.Outside → Some d lo hi (λ q. zeroF <F q)
+  outside-some e = record { p = corner; inside = corner-inside lo hi order; chosen = chosen d lo hi; says = settles State.Outside e corner (corner-inside lo hi order) (chosen d lo hi) }

@@ -1,0 +1,129 @@
+-- `residual` by the level: of any surface that `expansion` holds less an affine level, it holds the surface less the level at p. For a
+-- constant level, for the pieces Start, Ramp and End, and across the anchor planes. Assumes nothing.
+use mathlib.Core.Path.{_≡_, refl, subst⁻¹}
+use mathlib.Core.List.{List, [], _∷_}
+use Prim.Native.Nat.{ℕ, _<_}
+use lib.Dec.{lit<}
+use lib.IntN.{pos}
+use Rattle.exact.specs.Fraction.{Fraction, zeroF, _+F_, _-F_, _*F_, _≈F_}
+use Rattle.exact.proofs.Ring.{lit, _⊕_, _⊖_, _⊗_}
+use Rattle.exact.proofs.FractionRing.{ringF}
+use Rattle.exact.proofs.Fraction.{≈F-refl, ≈F-sym, ≈F-trans, commF, add-congF, sub-congF, over-cong, over-add, over-mul}
+use Rattle.interval.specs.declared.Interval.{Interval}
+use Rattle.interval.specs.Encloses.{_∈_}
+use Rattle.interval.proofs.Membership.{In, equal-encloses, wider, zero-encloses}
+use Rattle.interval.proofs.Encloses.{sub-encloses}
+use Rattle.grade.specs.declared.LevelKind.{LevelKind}
+use Rattle.grade.specs.declared.GradeDef.{GradeDef}
+use Rattle.grade.specs.declared.Piece.{Piece}
+use Rattle.grade.specs.declared.PieceAnswer.{PieceAnswer}
+use Rattle.grade.specs.Grade.{Point, level}
+use Rattle.grade.specs.Exact.{compiled}
+use Rattle.grade.specs.Intervals.{unit, linearIntervals, gradeIntervals, boxAt, zero, zeros, interval, affine, gradient, pieceGradient, piece}
+use Rattle.grade.specs.Holds.{SaysLevel, affineLevel, slope, inUnits}
+use Rattle.grade.proofs.PieceLaws.{ramp-affine}
+use Rattle.grade.proofs.IntervalLaws.{interval-encloses, affine-encloses, piece-says}
+use Rattle.grade.proofs.SlopeLaws.{zeros-at, gradient-encloses, affine-about}
+use Rattle.gyroid.specs.declared.Description.{Description}
+use Rattle.gyroid.specs.declared.Residual.{Residual}
+use Rattle.gyroid.specs.Leaf.{levelBy, constantLevel, leaf}
+use Rattle.gyroid.specs.Residual.{centre, expansion, lessLevel, residualOn, residualBy, residual}
+use Rattle.gyroid.proofs.AcceptedLaws.{Passed}
+use Rattle.gyroid.proofs.SecondOrder.{expandedAt}
+use Rattle.gyroid.proofs.ExpansionLaws.{HoldsIn, Expands}
+
+-- a residual that is an enclosure holds a fraction
+abbrev pub Has : Residual → Fraction → Type 0
+Has (Residual.Enclosure lo hi) q = q ∈ record { lo = lo; hi = hi }
+Has Residual.None q = Unit {0}
+
+equal-has : {a b : Fraction} → a ≈F b → (r : Residual) → HoldsIn r a → Has r b
+equal-has e (Residual.Enclosure lo hi) h = equal-encloses e (h .has)
+equal-has e Residual.None h = tt
+
+less-has : (a b u : Fraction) {U : Interval} → a -F u ≈F b → (r : Residual) → HoldsIn r a → In 100 u U → Has (lessLevel r U) b
+less-has a b u e (Residual.Enclosure lo hi) h k = equal-encloses e (sub-encloses tt h k .has)
+less-has a b u e Residual.None h k = tt
+
+-- a constant's interval is its level's
+constant-kept : {q : Fraction} (G : GradeDef) (w : List Interval) → G .kind ≡ LevelKind.Constant → In 100 q (interval (gradeIntervals G) w) → In 100 q (unit (constantLevel G))
+unfolding interval gradeIntervals linearIntervals
+constant-kept {q} G w e h = subst⁻¹ (λ (k : LevelKind). In 100 q (interval (gradeIntervals (record { kind = k; linear = G .linear })) w) → In 100 q (unit (levelBy k (G .linear)))) e (λ h. h) h
+
+module _
+    (d : Description) (passed : Passed d) (w : List Interval) (p m : Point)
+    (p-in : (i : ℕ) → i < 3 → In 40 (inUnits (p i)) (boxAt w i))
+    (m-in : (i : ℕ) → i < 3 → In 40 (inUnits (m i)) (boxAt w i))
+    (centre-in : (i : ℕ) → i < 3 → In 40 (inUnits (m i)) (boxAt (centre w) i))
+    (v e : Fraction) (steep : ℕ → Fraction)
+    (holds : Expands (leaf d) w v steep e (λ i. inUnits (p i -F m i)))
+  where
+    abbrev o : ℕ → Fraction
+    o i = inUnits (p i -F m i)
+
+    -- the surface about the centre, to second order
+    abbrev pub surface : Fraction
+    surface = v +F (steep 0 *F o 0 +F steep 1 *F o 1 +F steep 2 *F o 2) +F e
+
+    -- ---- THE REGROUPING: a level that is l + s · (p − m) goes into the expansion
+    affine-case : (l u : Fraction) (s : ℕ → Fraction) (L : Interval) (S : List Interval) → u ≈F l +F (s 0 *F o 0 +F s 1 *F o 1 +F s 2 *F o 2) → In 100 l L → ((i : ℕ) → i < 3 → In 100 (s i) (boxAt S i)) → Has (expansion (leaf d) w L S) (surface -F u)
+    affine-case l u s L S q level slope = equal-has (≈F-trans
+        (ringF 12 (λ v l e d0 d1 d2 s0 s1 s2 x y z. v ⊖ l ⊕ ((d0 ⊖ s0) ⊗ x ⊕ (d1 ⊖ s1) ⊗ y ⊕ (d2 ⊖ s2) ⊗ z ⊕ e))
+        (λ v l e d0 d1 d2 s0 s1 s2 x y z. v ⊕ (d0 ⊗ x ⊕ d1 ⊗ y ⊕ d2 ⊗ z) ⊕ e ⊖ (l ⊕ (s0 ⊗ x ⊕ s1 ⊗ y ⊕ s2 ⊗ z))) tt
+        (v ∷ l ∷ e ∷ steep 0 ∷ steep 1 ∷ steep 2 ∷ s 0 ∷ s 1 ∷ s 2 ∷ o 0 ∷ o 1 ∷ o 2 ∷ []))
+        (sub-congF (≈F-refl surface) (≈F-sym q))) (expansion (leaf d) w L S) (holds l s L S level slope)
+
+    -- no slope
+    abbrev flat : ℕ → Fraction
+    flat i = zeroF
+
+    flat-in : (i : ℕ) → i < 3 → In 100 (flat i) (boxAt zeros i)
+    flat-in i b = wider 100 tt (zeros-at i b)
+
+    flat-case : (l u : Fraction) (L : Interval) → u ≈F l → In 100 l L → Has (expansion (leaf d) w L zeros) (surface -F u)
+    flat-case l u L q level = affine-case l u flat L zeros (≈F-trans q (ringF 4 (λ l x y z. l) (λ l x y z. l ⊕ (lit (pos 0) ⊗ x ⊕ lit (pos 0) ⊗ y ⊕ lit (pos 0) ⊗ z)) tt (l ∷ o 0 ∷ o 1 ∷ o 2 ∷ []))) level flat-in
+
+    -- ---- the level
+    abbrev u : Fraction
+    u = inUnits (level (d .level) p)
+
+    same-level : level (d .level) p ≈F level (d .level) m → Has (expansion (leaf d) w (interval (gradeIntervals (compiled (d .level))) (centre w)) zeros) (surface -F u)
+    same-level q = flat-case (inUnits (level (d .level) m)) u (interval (gradeIntervals (compiled (d .level))) (centre w)) (over-cong (lit< tt) q) (interval-encloses (d .level) (passed .level) (passed .apart) m (centre w) centre-in)
+
+    -- on a ramp, about the centre
+    abbrev rise : ℕ → Fraction
+    rise i = slope (d .level) i *F (p i -F m i)
+
+    ramp-about : level (d .level) p ≈F affineLevel (d .level) p → u ≈F inUnits (affineLevel (d .level) m) +F (slope (d .level) 0 *F o 0 +F slope (d .level) 1 *F o 1 +F slope (d .level) 2 *F o 2)
+    ramp-about q = ≈F-trans (over-cong (lit< tt) (≈F-trans q (affine-about (d .level) (passed .apart) p m)))
+        (≈F-trans (over-add (affineLevel (d .level) m) (rise 0 +F rise 1 +F rise 2) (lit< tt))
+        (add-congF (≈F-refl (inUnits (affineLevel (d .level) m)))
+        (≈F-trans (over-add (rise 0 +F rise 1) (rise 2) (lit< tt)) (add-congF (≈F-trans (over-add (rise 0) (rise 1) (lit< tt)) (add-congF (along 0) (along 1))) (along 2)))))
+      where
+        along : (i : ℕ) → inUnits (rise i) ≈F slope (d .level) i *F o i
+        along i = ≈F-trans (over-cong (lit< tt) (commF (slope (d .level) i) (p i -F m i))) (≈F-trans (over-mul (p i -F m i) (slope (d .level) i) (lit< tt)) (commF (o i) (slope (d .level) i)))
+
+    -- across an anchor plane
+    across-case : Has (lessLevel (expansion (leaf d) w zero zeros) (interval (gradeIntervals (compiled (d .level))) w)) (surface -F u)
+    across-case = less-has (expandedAt v steep e zeroF flat o) (surface -F u) u (sub-congF (ringF 8 (λ v e x y z a b c. v ⊖ lit (pos 0) ⊕ ((x ⊖ lit (pos 0)) ⊗ a ⊕ (y ⊖ lit (pos 0)) ⊗ b ⊕ (z ⊖ lit (pos 0)) ⊗ c ⊕ e)) (λ v e x y z a b c. v ⊕ (x ⊗ a ⊕ y ⊗ b ⊕ z ⊗ c) ⊕ e) tt (v ∷ e ∷ steep 0 ∷ steep 1 ∷ steep 2 ∷ o 0 ∷ o 1 ∷ o 2 ∷ [])) (≈F-refl u))
+        (expansion (leaf d) w zero zeros) (holds zeroF flat zero zeros (wider 100 tt zero-encloses) flat-in) (interval-encloses (d .level) (passed .level) (passed .apart) p w p-in)
+
+    piece-case : (a : PieceAnswer) → SaysLevel (d .level) p a → SaysLevel (d .level) m a → Has (residualOn a (leaf d) w) (surface -F u)
+    unfolding leaf pieceGradient
+    piece-case (PieceAnswer.Found Piece.Start) h k = same-level (≈F-trans h (≈F-sym k))
+    piece-case (PieceAnswer.Found Piece.Ramp) h k = affine-case (inUnits (affineLevel (d .level) m)) u (slope (d .level)) (affine (gradeIntervals (compiled (d .level))) (centre w)) (gradient (gradeIntervals (compiled (d .level)))) (ramp-about (ramp-affine (d .level) p h)) (affine-encloses (d .level) (passed .level) (passed .apart) m (centre w) centre-in) (gradient-encloses (d .level) (passed .level) (passed .apart))
+    piece-case (PieceAnswer.Found Piece.End) h k = same-level (≈F-trans h (≈F-sym k))
+    piece-case PieceAnswer.None h k = across-case
+
+    -- a constant level
+    constant-in : compiled (d .level) .kind ≡ LevelKind.Constant → In 100 u (unit (constantLevel (compiled (d .level))))
+    constant-in e = constant-kept (compiled (d .level)) w e (interval-encloses (d .level) (passed .level) (passed .apart) p w p-in)
+
+    -- THE FACT
+    pub residual-has : Has (residual (leaf d) w) (surface -F u)
+    unfolding residual leaf gradeIntervals
+    residual-has = go (compiled (d .level) .kind) refl
+      where
+        go : (k : LevelKind) → compiled (d .level) .kind ≡ k → Has (residualBy k (leaf d) w) (surface -F u)
+        go LevelKind.Constant e = flat-case u u (unit (constantLevel (compiled (d .level)))) (≈F-refl u) (constant-in e)
+        go LevelKind.Linear e = piece-case (piece (gradeIntervals (compiled (d .level))) w) (piece-says (d .level) (passed .level) (passed .apart) p w p-in) (piece-says (d .level) (passed .level) (passed .apart) m w m-in)
