@@ -1,6 +1,6 @@
 -- The grade in intervals holds the grade: t, the level, its affine extension and its slope, at every rational point whose coordinates the
 -- box's intervals hold; and what the float piece says of them. Assumes nothing.
-use mathlib.Core.Path.{_≡_, refl, sym, subst}
+use mathlib.Core.Path.{_≡_, refl, sym, ap, subst}
 use mathlib.Core.Bool.{not, _&&_}
 use mathlib.Core.List.{List, [], _∷_}
 use Prim.Native.Nat.{ℕ, suc, _*_, _^_, _≤_, _<_}
@@ -24,6 +24,8 @@ use Rattle.interval.proofs.Encloses.{add-encloses, sub-encloses, mul-encloses, 
 use Rattle.interval.proofs.Quotient.{inversePower, div-encloses, fraction-apart}
 use Rattle.interval.proofs.Bounds.{clamp-encloses}
 use Rattle.grade.specs.declared.Grade.{Grade}
+use Rattle.grade.specs.declared.GradeDef.{GradeDef}
+use Rattle.grade.specs.declared.LevelKind.{LevelKind}
 use Rattle.grade.specs.Grade.{at, direction, lengthSq, Point, along, t, between, level}
 use Rattle.grade.specs.Exact.{linearOf, numbers, constantDef, compiled}
 use Rattle.grade.specs.Refusals.{coincident}
@@ -136,6 +138,16 @@ piece-of-says {x} {X} h = chosen-says (le (X .hi) (b64 0)) (le one (X .lo)) (le 
   where
     one : Float
     one = b64 0x3ff0_0000_0000_0000
+
+-- ---- by the kind
+pub intervals-kind : (G : GradeDef) → gradeIntervals G .kind ≡ G .kind
+unfolding gradeIntervals
+intervals-kind G = refl
+
+-- a constant's interval is its level's
+pub constant-interval : (G : GradeDef) (w : List Interval) → G .kind ≡ LevelKind.Constant → interval (gradeIntervals G) w ≡ unit (G .linear .start)
+unfolding interval gradeIntervals linearIntervals
+constant-interval G w e = ap (λ (k : LevelKind). interval (record { kind = k; linear = linearIntervals (G .linear) }) w) e
 
 -- ---- THE FACTS, of an accepted level and a point whose coordinates, in millimetres, the box's intervals hold
 module _ (g : Grade) (limits : InLimits g) (apart : T (not (coincident g))) where

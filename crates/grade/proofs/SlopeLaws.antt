@@ -15,12 +15,14 @@ use Rattle.exact.proofs.Fraction.{≈F-refl, ≈F-sym, ≈F-trans, add-congF, m
 use Rattle.interval.proofs.Membership.{In, equal-in, wider, zero-encloses}
 use Rattle.interval.proofs.Encloses.{fraction-encloses}
 use Rattle.grade.specs.declared.Grade.{Grade}
+use Rattle.grade.specs.declared.Piece.{Piece}
+use Rattle.grade.specs.declared.Piece.the-variants.{Start, Ramp, End}
 use Rattle.grade.specs.Grade.{at, eqZ, isLinear, direction, lengthSq, Point, along, t}
 use Rattle.grade.specs.Exact.{linearOf, numbers, constantDef, compiled}
 use Rattle.grade.specs.Refusals.{coincident}
 use Rattle.grade.specs.Fits.{InLimits}
-use Rattle.grade.specs.Intervals.{slopes, slopeAlong, linearIntervals, gradeIntervals, boxAt, zeros, gradient}
-use Rattle.grade.specs.Holds.{affineLevel, slope}
+use Rattle.grade.specs.Intervals.{slopes, slopeAlong, linearIntervals, gradeIntervals, boxAt, zeros, gradient, pieceGradient}
+use Rattle.grade.specs.Holds.{affineLevel, slope, pieceSlope}
 use Rattle.grade.proofs.Axes.{three}
 use Rattle.grade.proofs.Entries.{sizes}
 use Rattle.grade.proofs.Sizes.{minus-within}
@@ -74,6 +76,13 @@ gradient-encloses g limits apart i l = by-kind g (λ G. In 100 (slope g i) (boxA
 
     steep : 0 < natAbs (lengthSq g) → In 100 (whole (at (direction g) i *ℤ (g .end -ℤ g .start)) /F natAbs (lengthSq g)) (slopeAlong (numbers g) (at (direction g) i))
     steep N = wider 100 tt (equal-in (≈F-sym (over-whole (at (direction g) i *ℤ (g .end -ℤ g .start)) N)) (fraction-encloses 34 (ratio (at (direction g) i *ℤ (g .end -ℤ g .start)) (natAbs (lengthSq g)) N) tt (le-trans small (room (natAbs (lengthSq g)) N))))
+
+-- of one piece
+pub piece-gradient-encloses : (g : Grade) → InLimits g → T (not (coincident g)) → (p : Piece) (i : ℕ) → i < 3 → In 100 (pieceSlope g p i) (boxAt (pieceGradient (gradeIntervals (compiled g)) p) i)
+unfolding pieceGradient
+piece-gradient-encloses g limits apart Start i l = wider 100 tt (zeros-at i l)
+piece-gradient-encloses g limits apart Ramp i l = gradient-encloses g limits apart i l
+piece-gradient-encloses g limits apart End i l = wider 100 tt (zeros-at i l)
 
 -- ---- affine about any point
 module _ (g : Grade) (l : T (isLinear g)) (apart : T (not (coincident g))) where

@@ -9,6 +9,7 @@ use lib.Signed.{_≤ℤ_}
 use Rattle.exact.specs.Fraction.{Fraction, whole, zeroF, oneF, _/F_, _≤F_, _≈F_}
 use Rattle.grade.specs.declared.Grade.{Grade}
 use Rattle.grade.specs.declared.Bounds.{Bounds}
+use Rattle.grade.specs.declared.Piece.{Piece}
 use Rattle.grade.specs.declared.Piece.the-variants.{Start, Ramp, End}
 use Rattle.grade.specs.declared.PieceAnswer.{PieceAnswer}
 use Rattle.grade.specs.declared.PieceAnswer.the-variants.{Found, None}
@@ -63,6 +64,12 @@ affineLevel g p = cond (isLinear g) (between g (t g p)) (whole (g .start))
 
 unfoldable pub slope : Grade → ℕ → Fraction
 slope g i = cond (isLinear g) (whole (at (direction g) i *ℤ (g .end -ℤ g .start)) /F natAbs (lengthSq g)) zeroF
+
+-- the level's slope on a piece
+abbrev pub pieceSlope : Grade → Piece → ℕ → Fraction
+pieceSlope g Start i = zeroF
+pieceSlope g Ramp i = slope g i
+pieceSlope g End i = zeroF
 
 -- "A tick is 1/1024 mm; a level count is 1/1024.": ticks in millimetres, and level counts as levels
 abbrev pub inUnits : Fraction → Fraction

@@ -3,11 +3,11 @@
 use mathlib.Core.Path.{_≡_, refl}
 use mathlib.Core.List.{List, [], _∷_}
 use Prim.Native.Nat.{ℕ, zero, suc}
-use lib.Dec.{lit<}
-use lib.IntN.{ℤ, pos, negsuc}
-use lib.Signed.{leZ-yes}
+use lib.Dec.{T, lit<}
+use lib.IntN.{ℤ, pos, negsuc, _*ℤ_}
+use lib.Signed.{leZ, leZ-yes}
 use lib.Ieee.{ofBits, toBits, isNan, neg, add, mul, lt, round}
-use Rattle.exact.specs.Fraction.{Fraction, ratio, _+F_, _-F_, _*F_, _/F_, negF, _≈F_, AbsF, minF, maxF, heldF}
+use Rattle.exact.specs.Fraction.{Fraction, denZ, ratio, _+F_, _-F_, _*F_, _/F_, negF, _≈F_, AbsF, minF, maxF, heldF}
 use Rattle.interval.specs.Step.{nextUp, nextDown}
 use Rattle.interval.specs.Interval.{product, mid}
 use Rattle.interval.specs.Nearest.{fromRational}
@@ -36,6 +36,10 @@ unfolding ofBits toBits isNan neg add mul lt round nextUp nextDown product mid f
 quarters = (refl, refl, refl)
 
 -- ---- what is chosen
+-- a size, by its two comparisons multiplied out
+decided : {x a : Fraction} → T (leZ (negF a .num *ℤ denZ x) (x .num *ℤ denZ (negF a))) → T (leZ (x .num *ℤ denZ a) (a .num *ℤ denZ x)) → AbsF x a
+decided l h = record { low = record { le = leZ-yes l }; high = record { le = leZ-yes h } }
+
 abbrev sine-error : ℕ → Fraction
 sine-error zero = ratio (pos 2097152) 35403383781909942626953125 (lit< tt)
 sine-error (suc zero) = ratio (pos 0) 1 (lit< tt)
@@ -57,9 +61,9 @@ chosen = record {
   cosine-error = cosine-error;
   e = e;
   w-between = record { above = record { le = leZ-yes tt }; below = record { le = leZ-yes tt } };
-  sine-within = three (λ i. AbsF (sine-error i) sineTail) (record { low = record { le = leZ-yes tt }; high = record { le = leZ-yes tt } }) (record { low = record { le = leZ-yes tt }; high = record { le = leZ-yes tt } }) (record { low = record { le = leZ-yes tt }; high = record { le = leZ-yes tt } });
-  cosine-within = three (λ i. AbsF (cosine-error i) cosineTail) (record { low = record { le = leZ-yes tt }; high = record { le = leZ-yes tt } }) (record { low = record { le = leZ-yes tt }; high = record { le = leZ-yes tt } }) (record { low = record { le = leZ-yes tt }; high = record { le = leZ-yes tt } });
-  e-within = record { low = record { le = leZ-yes tt }; high = record { le = leZ-yes tt } };
+  sine-within = three (λ i. AbsF (sine-error i) sineTail) (decided tt tt) (decided tt tt) (decided tt tt);
+  cosine-within = three (λ i. AbsF (cosine-error i) cosineTail) (decided tt tt) (decided tt tt) (decided tt tt);
+  e-within = decided tt tt;
 }
 
 -- ---- where, and the admitted residual there

@@ -7,14 +7,14 @@ use lib.Dec.{T}
 use Rattle.interval.specs.declared.Interval.{Interval}
 use Rattle.grade.specs.declared.LevelKind.{LevelKind}
 use Rattle.grade.specs.declared.PieceAnswer.{PieceAnswer}
-use Rattle.grade.specs.Intervals.{zero, zeros, interval, affine, gradient, pieceGradient, piece}
+use Rattle.grade.specs.Intervals.{zero, zeros, interval, affine, gradient, piece}
 use Rattle.gyroid.specs.declared.Gyroid.{Gyroid}
 use Rattle.gyroid.specs.declared.Residual.{Residual}
 use Rattle.gyroid.specs.declared.Residual.the-variants.{None}
 use Rattle.gyroid.specs.declared.State.the-variants.{Unsettled}
 use Rattle.gyroid.specs.Refusals.{allFinite}
 use Rattle.gyroid.specs.Jet.{jet}
-use Rattle.gyroid.specs.Residual.{centre, radii, expanded, expansion, levelAt, lessLevel, residualOn, residualBy, residual, affineBy, affineResidual, stateOf, boxState}
+use Rattle.gyroid.specs.Residual.{centre, radii, expanded, expansion, lessLevel, residualOn, residualBy, residual, affineBy, affineResidual, stateOf, boxState}
 
 module _ (g : Gyroid) (w : List Interval) (t : T (not (allFinite w))) where
   expansion-none : (level : Interval) (slope : List Interval) → expansion g w level slope ≡ None
@@ -26,7 +26,7 @@ module _ (g : Gyroid) (w : List Interval) (t : T (not (allFinite w))) where
       go false u = absurd u
 
   on-none : (a : PieceAnswer) → residualOn a g w ≡ None
-  on-none (PieceAnswer.Found p) = expansion-none (levelAt (g .intervals) p (centre w)) (pieceGradient (g .intervals) p)
+  on-none (PieceAnswer.Found p) = expansion-none _ _
   on-none PieceAnswer.None = ap (λ (r : Residual). lessLevel r (interval (g .intervals) w)) (expansion-none zero zeros)
 
   pub residual-none : residual g w ≡ None

@@ -22,7 +22,6 @@ use Rattle.grade.proofs.Axes.{three}
 use Rattle.gyroid.specs.declared.Description.{Description}
 use Rattle.gyroid.specs.declared.Turn.{Turn}
 use Rattle.gyroid.specs.declared.Jet.{Jet}
-use Rattle.gyroid.specs.Leaf as interval
 use Rattle.gyroid.specs.Leaf.{turns, leaf}
 use Rattle.gyroid.specs.Turn.{turn}
 use Rattle.gyroid.specs.Jet as float
@@ -49,7 +48,8 @@ module _ (d : Description) (above : pos 0 <ℤ d .period) where
       room a h = omega arith
 
   module _ {w : Fraction} (between : w ∈ twoPi) where
-    pub wave-in : In 15 (w *F perMillimetre) (interval.wave d)
+    pub wave-in : In 15 (w *F perMillimetre) (leaf d .wave)
+    unfolding leaf
     wave-in = mul-encloses tt (two-pi-in between) turns-in
 
     pub wave-squared-in : In 31 (w *F perMillimetre *F (w *F perMillimetre)) (leaf d .«wave_squared»)
@@ -80,14 +80,14 @@ module _ (d : Description) (above : pos 0 <ℤ d .period) where
     abbrev k : Fraction
     k = h .w *F perMillimetre
 
-    found-holds : (x y z : Turn) → Sound x (waves d lo hi h 0) → Sound y (waves d lo hi h 1) → Sound z (waves d lo hi h 2) → JetHolds (jetOf (wavesOf x y z) (interval.wave d)) (g d lo hi h) (λ i. factor d lo hi h i *F k)
+    found-holds : (x y z : Turn) → Sound x (waves d lo hi h 0) → Sound y (waves d lo hi h 1) → Sound z (waves d lo hi h 2) → JetHolds (jetOf (wavesOf x y z) (leaf d .wave)) (g d lo hi h) (λ i. factor d lo hi h i *F k)
     unfolding valueAt gradientAt crossed
     found-holds Turn.None y z X Y Z = record { value = λ t. absurd t; gradient = λ t. absurd t }
     found-holds (Turn.Found sx cx) Turn.None z X Y Z = record { value = λ t. absurd t; gradient = λ t. absurd t }
     found-holds (Turn.Found sx cx) (Turn.Found sy cy) Turn.None X Y Z = record { value = λ t. absurd t; gradient = λ t. absurd t }
     found-holds (Turn.Found sx cx) (Turn.Found sy cy) (Turn.Found sz cz) X Y Z = record {
       value = λ _. wider 100 tt (add-encloses tt (add-encloses tt (mul-encloses tt (X .0) (Y .1)) (mul-encloses tt (Y .0) (Z .1))) (mul-encloses tt (Z .0) (X .1)));
-      gradient = λ _. three (λ i. In 100 (factor d lo hi h i *F k) (boxAt (gradientAt sx cx sy cy sz cz (interval.wave d)) i))
+      gradient = λ _. three (λ i. In 100 (factor d lo hi h i *F k) (boxAt (gradientAt sx cx sy cy sz cz (leaf d .wave)) i))
           (wider 100 tt (mul-encloses tt (sub-encloses tt (mul-encloses tt (X .1) (Y .1)) (mul-encloses tt (Z .0) (X .0))) (wave-in (h .w-between))))
           (wider 100 tt (mul-encloses tt (sub-encloses tt (mul-encloses tt (Y .1) (Z .1)) (mul-encloses tt (X .0) (Y .0))) (wave-in (h .w-between))))
           (wider 100 tt (mul-encloses tt (sub-encloses tt (mul-encloses tt (Z .1) (X .1)) (mul-encloses tt (Y .0) (Z .0))) (wave-in (h .w-between))));

@@ -1,6 +1,6 @@
 -- `residual` by the level: of any surface that `expansion` holds less an affine level, it holds the surface less the level at p. For a
 -- constant level, for the pieces Start, Ramp and End, and across the anchor planes. Assumes nothing.
-use mathlib.Core.Path.{_≡_, refl, subst⁻¹}
+use mathlib.Core.Path.{_≡_, refl, sym, ap, _∙_, subst}
 use mathlib.Core.List.{List, [], _∷_}
 use Prim.Native.Nat.{ℕ, _<_}
 use lib.Dec.{lit<}
@@ -19,11 +19,11 @@ use Rattle.grade.specs.declared.Piece.{Piece}
 use Rattle.grade.specs.declared.PieceAnswer.{PieceAnswer}
 use Rattle.grade.specs.Grade.{Point, level}
 use Rattle.grade.specs.Exact.{compiled}
-use Rattle.grade.specs.Intervals.{unit, linearIntervals, gradeIntervals, boxAt, zero, zeros, interval, affine, gradient, pieceGradient, piece}
-use Rattle.grade.specs.Holds.{SaysLevel, affineLevel, slope, inUnits}
+use Rattle.grade.specs.Intervals.{unit, gradeIntervals, boxAt, zero, zeros, interval, affine, pieceGradient, piece}
+use Rattle.grade.specs.Holds.{SaysLevel, affineLevel, slope, pieceSlope, inUnits}
 use Rattle.grade.proofs.PieceLaws.{ramp-affine}
-use Rattle.grade.proofs.IntervalLaws.{interval-encloses, affine-encloses, piece-says}
-use Rattle.grade.proofs.SlopeLaws.{zeros-at, gradient-encloses, affine-about}
+use Rattle.grade.proofs.IntervalLaws.{intervals-kind, constant-interval, interval-encloses, affine-encloses, piece-says}
+use Rattle.grade.proofs.SlopeLaws.{zeros-at, piece-gradient-encloses, affine-about}
 use Rattle.gyroid.specs.declared.Description.{Description}
 use Rattle.gyroid.specs.declared.Residual.{Residual}
 use Rattle.gyroid.specs.Leaf.{levelBy, constantLevel, leaf}
@@ -44,11 +44,6 @@ equal-has e Residual.None h = tt
 less-has : (a b u : Fraction) {U : Interval} → a -F u ≈F b → (r : Residual) → HoldsIn r a → In 100 u U → Has (lessLevel r U) b
 less-has a b u e (Residual.Enclosure lo hi) h k = equal-encloses e (sub-encloses tt h k .has)
 less-has a b u e Residual.None h k = tt
-
--- a constant's interval is its level's
-constant-kept : {q : Fraction} (G : GradeDef) (w : List Interval) → G .kind ≡ LevelKind.Constant → In 100 q (interval (gradeIntervals G) w) → In 100 q (unit (constantLevel G))
-unfolding interval gradeIntervals linearIntervals
-constant-kept {q} G w e h = subst⁻¹ (λ (k : LevelKind). In 100 q (interval (gradeIntervals (record { kind = k; linear = G .linear })) w) → In 100 q (unit (levelBy k (G .linear)))) e (λ h. h) h
 
 module _
     (d : Description) (passed : Passed d) (w : List Interval) (p m : Point)
@@ -73,22 +68,33 @@ module _
         (v ∷ l ∷ e ∷ steep 0 ∷ steep 1 ∷ steep 2 ∷ s 0 ∷ s 1 ∷ s 2 ∷ o 0 ∷ o 1 ∷ o 2 ∷ []))
         (sub-congF (≈F-refl surface) (≈F-sym q))) (expansion (leaf d) w L S) (holds l s L S level slope)
 
-    -- no slope
+    -- without a slope
     abbrev flat : ℕ → Fraction
     flat i = zeroF
 
     flat-in : (i : ℕ) → i < 3 → In 100 (flat i) (boxAt zeros i)
     flat-in i b = wider 100 tt (zeros-at i b)
 
-    flat-case : (l u : Fraction) (L : Interval) → u ≈F l → In 100 l L → Has (expansion (leaf d) w L zeros) (surface -F u)
-    flat-case l u L q level = affine-case l u flat L zeros (≈F-trans q (ringF 4 (λ l x y z. l) (λ l x y z. l ⊕ (lit (pos 0) ⊗ x ⊕ lit (pos 0) ⊗ y ⊕ lit (pos 0) ⊗ z)) tt (l ∷ o 0 ∷ o 1 ∷ o 2 ∷ []))) level flat-in
+    unsloped : (l x : Fraction) → x ≈F l → x ≈F l +F (flat 0 *F o 0 +F flat 1 *F o 1 +F flat 2 *F o 2)
+    unsloped l x q = ≈F-trans q (ringF 4 (λ l x y z. l) (λ l x y z. l ⊕ (lit (pos 0) ⊗ x ⊕ lit (pos 0) ⊗ y ⊕ lit (pos 0) ⊗ z)) tt (l ∷ o 0 ∷ o 1 ∷ o 2 ∷ []))
 
     -- ---- the level
     abbrev u : Fraction
     u = inUnits (level (d .level) p)
 
-    same-level : level (d .level) p ≈F level (d .level) m → Has (expansion (leaf d) w (interval (gradeIntervals (compiled (d .level))) (centre w)) zeros) (surface -F u)
-    same-level q = flat-case (inUnits (level (d .level) m)) u (interval (gradeIntervals (compiled (d .level))) (centre w)) (over-cong (lit< tt) q) (interval-encloses (d .level) (passed .level) (passed .apart) m (centre w) centre-in)
+    abbrev C : GradeDef
+    C = compiled (d .level)
+
+    slope-in : (a : Piece) (i : ℕ) → i < 3 → In 100 (pieceSlope (d .level) a i) (boxAt (pieceGradient (gradeIntervals C) a) i)
+    slope-in = piece-gradient-encloses (d .level) (passed .level) (passed .apart)
+
+    range-in : In 100 u (interval (gradeIntervals C) w)
+    range-in = interval-encloses (d .level) (passed .level) (passed .apart) p w p-in
+
+    -- the same at p and at the centre
+    same-level : (S : List Interval) → ((i : ℕ) → i < 3 → In 100 (flat i) (boxAt S i)) → level (d .level) p ≈F level (d .level) m → Has (expansion (leaf d) w (interval (gradeIntervals C) (centre w)) S) (surface -F u)
+    same-level S s q = affine-case (inUnits (level (d .level) m)) u flat (interval (gradeIntervals C) (centre w)) S (unsloped (inUnits (level (d .level) m)) u (over-cong (lit< tt) q))
+        (interval-encloses (d .level) (passed .level) (passed .apart) m (centre w) centre-in) s
 
     -- on a ramp, about the centre
     abbrev rise : ℕ → Fraction
@@ -104,26 +110,27 @@ module _
         along i = ≈F-trans (over-cong (lit< tt) (commF (slope (d .level) i) (p i -F m i))) (≈F-trans (over-mul (p i -F m i) (slope (d .level) i) (lit< tt)) (commF (o i) (slope (d .level) i)))
 
     -- across an anchor plane
-    across-case : Has (lessLevel (expansion (leaf d) w zero zeros) (interval (gradeIntervals (compiled (d .level))) w)) (surface -F u)
+    across-case : Has (lessLevel (expansion (leaf d) w zero zeros) (interval (gradeIntervals C) w)) (surface -F u)
     across-case = less-has (expandedAt v steep e zeroF flat o) (surface -F u) u (sub-congF (ringF 8 (λ v e x y z a b c. v ⊖ lit (pos 0) ⊕ ((x ⊖ lit (pos 0)) ⊗ a ⊕ (y ⊖ lit (pos 0)) ⊗ b ⊕ (z ⊖ lit (pos 0)) ⊗ c ⊕ e)) (λ v e x y z a b c. v ⊕ (x ⊗ a ⊕ y ⊗ b ⊕ z ⊗ c) ⊕ e) tt (v ∷ e ∷ steep 0 ∷ steep 1 ∷ steep 2 ∷ o 0 ∷ o 1 ∷ o 2 ∷ [])) (≈F-refl u))
-        (expansion (leaf d) w zero zeros) (holds zeroF flat zero zeros (wider 100 tt zero-encloses) flat-in) (interval-encloses (d .level) (passed .level) (passed .apart) p w p-in)
+        (expansion (leaf d) w zero zeros) (holds zeroF flat zero zeros (wider 100 tt zero-encloses) flat-in) range-in
 
     piece-case : (a : PieceAnswer) → SaysLevel (d .level) p a → SaysLevel (d .level) m a → Has (residualOn a (leaf d) w) (surface -F u)
-    unfolding leaf pieceGradient
-    piece-case (PieceAnswer.Found Piece.Start) h k = same-level (≈F-trans h (≈F-sym k))
-    piece-case (PieceAnswer.Found Piece.Ramp) h k = affine-case (inUnits (affineLevel (d .level) m)) u (slope (d .level)) (affine (gradeIntervals (compiled (d .level))) (centre w)) (gradient (gradeIntervals (compiled (d .level)))) (ramp-about (ramp-affine (d .level) p h)) (affine-encloses (d .level) (passed .level) (passed .apart) m (centre w) centre-in) (gradient-encloses (d .level) (passed .level) (passed .apart))
-    piece-case (PieceAnswer.Found Piece.End) h k = same-level (≈F-trans h (≈F-sym k))
+    unfolding leaf
+    piece-case (PieceAnswer.Found Piece.Start) h k = same-level (pieceGradient (gradeIntervals C) Piece.Start) (slope-in Piece.Start) (≈F-trans h (≈F-sym k))
+    piece-case (PieceAnswer.Found Piece.Ramp) h k = affine-case (inUnits (affineLevel (d .level) m)) u (slope (d .level)) (affine (gradeIntervals C) (centre w)) (pieceGradient (gradeIntervals C) Piece.Ramp) (ramp-about (ramp-affine (d .level) p h))
+        (affine-encloses (d .level) (passed .level) (passed .apart) m (centre w) centre-in) (slope-in Piece.Ramp)
+    piece-case (PieceAnswer.Found Piece.End) h k = same-level (pieceGradient (gradeIntervals C) Piece.End) (slope-in Piece.End) (≈F-trans h (≈F-sym k))
     piece-case PieceAnswer.None h k = across-case
 
     -- a constant level
-    constant-in : compiled (d .level) .kind ≡ LevelKind.Constant → In 100 u (unit (constantLevel (compiled (d .level))))
-    constant-in e = constant-kept (compiled (d .level)) w e (interval-encloses (d .level) (passed .level) (passed .apart) p w p-in)
+    constant-in : C .kind ≡ LevelKind.Constant → In 100 u (unit (constantLevel C))
+    constant-in e = subst (In 100 u) (constant-interval C w e ∙ sym (ap (λ (k : LevelKind). unit (levelBy k (C .linear))) e)) range-in
 
     -- THE FACT
     pub residual-has : Has (residual (leaf d) w) (surface -F u)
-    unfolding residual leaf gradeIntervals
-    residual-has = go (compiled (d .level) .kind) refl
+    unfolding residual leaf
+    residual-has = go (gradeIntervals C .kind) refl
       where
-        go : (k : LevelKind) → compiled (d .level) .kind ≡ k → Has (residualBy k (leaf d) w) (surface -F u)
-        go LevelKind.Constant e = flat-case u u (unit (constantLevel (compiled (d .level)))) (≈F-refl u) (constant-in e)
-        go LevelKind.Linear e = piece-case (piece (gradeIntervals (compiled (d .level))) w) (piece-says (d .level) (passed .level) (passed .apart) p w p-in) (piece-says (d .level) (passed .level) (passed .apart) m w m-in)
+        go : (k : LevelKind) → gradeIntervals C .kind ≡ k → Has (residualBy k (leaf d) w) (surface -F u)
+        go LevelKind.Constant e = affine-case u u flat (unit (constantLevel C)) zeros (unsloped u u (≈F-refl u)) (constant-in (sym (intervals-kind C) ∙ e)) flat-in
+        go LevelKind.Linear e = piece-case (piece (gradeIntervals C) w) (piece-says (d .level) (passed .level) (passed .apart) p w p-in) (piece-says (d .level) (passed .level) (passed .apart) m w m-in)

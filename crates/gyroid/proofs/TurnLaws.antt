@@ -12,7 +12,7 @@ use lib.Ieee.Scale.{finite}
 use Rattle.exact.specs.Fraction.{Fraction, ratio, whole, _+F_, _-F_, _*F_, _/F_, negF, _≤F_, _≈F_, AbsF}
 use Rattle.exact.proofs.Ring.{lit, _⊕_, _⊗_}
 use Rattle.exact.proofs.FractionRing.{ringF}
-use Rattle.exact.proofs.Fraction.{≤F-trans, ≈F-sym, ≈F-trans, over-is}
+use Rattle.exact.proofs.Fraction.{≤F-trans, ≈F-ge, neg-monoF, ≈F-sym, ≈F-trans, over-is}
 use Rattle.exact.proofs.FractionSize.{abs-wider}
 use Rattle.interval.specs.declared.Interval.{Interval}
 use Rattle.interval.specs.Step.{b64}
@@ -21,7 +21,7 @@ use Rattle.interval.specs.Nearest.{nearest}
 use Rattle.interval.specs.Floor.{quarterNumber, modFour}
 use Rattle.interval.specs.Series.{sineTerm, cosineTerm, term, nine, tail, tailUp}
 use Rattle.interval.specs.Encloses.{value, Small, _∈_}
-use Rattle.interval.proofs.Small.{power, abs-small, small-finite}
+use Rattle.interval.proofs.Small.{power, abs-small, small-finite, finite-neg, value-neg}
 use Rattle.interval.proofs.Compare.{nlt-value}
 use Rattle.interval.proofs.DoubleSizes.{mid-small, quarter-within}
 use Rattle.interval.proofs.Exact.{binary, nearest-exact, exact-small}
@@ -33,7 +33,7 @@ use Rattle.grade.proofs.Entries.{not-either}
 use Rattle.gyroid.specs.declared.Description.{Description}
 use Rattle.gyroid.specs.declared.Turn.{Turn}
 use Rattle.gyroid.specs.Leaf.{leaf}
-use Rattle.gyroid.specs.Turn as interval
+use Rattle.gyroid.specs.Turn as float
 use Rattle.gyroid.specs.Turn.{turn, reducible, reduced, beyond, horner, symmetric, sineAt, cosineAt}
 use Rattle.gyroid.specs.Admitted.{polynomial, sinePolynomial, cosinePolynomial, sineTail, cosineTail, turned}
 
@@ -81,22 +81,22 @@ module _ {t w : Fraction} {I : Interval} (h : In 23 t I) (between : w ∈ twoPi)
 
 -- ---- what passes the test of 0.8 is at most 1 in size
 module _ {u : Fraction} {U : Interval} (h : In 35 u U) (near : T (not (beyond U))) where
-  limit-finite : T (finite (b64 0x3fe9_9999_9999_999a)) × T (finite (neg (b64 0x3fe9_9999_9999_999a)))
-  unfolding ofBits neg
-  limit-finite = (tt, tt)
+  limit-finite : T (finite (b64 0x3fe9_9999_9999_999a))
+  unfolding ofBits
+  limit-finite = tt
 
-  limit-below : (negF (power 0) ≤F value (neg (b64 0x3fe9_9999_9999_999a))) × (value (b64 0x3fe9_9999_9999_999a) ≤F power 0)
-  unfolding ofBits neg negF
-  limit-below = (record { le = leZ-yes tt }, record { le = leZ-yes tt })
+  limit-most : value (b64 0x3fe9_9999_9999_999a) ≤F power 0
+  unfolding ofBits
+  limit-most = record { le = leZ-yes tt }
 
   tests : T (not (lt (U .lo) (neg (b64 0x3fe9_9999_9999_999a)))) × T (not (lt (b64 0x3fe9_9999_9999_999a) (U .hi)))
   tests = not-either (lt (U .lo) (neg (b64 0x3fe9_9999_9999_999a))) (lt (b64 0x3fe9_9999_9999_999a) (U .hi)) near
 
   from : negF (power 0) ≤F value (U .lo)
-  from = ≤F-trans (limit-below .0) (nlt-value (U .lo) (neg (b64 0x3fe9_9999_9999_999a)) (small-finite 35 (U .lo) (h .small-lo)) (limit-finite .1) (tests .0))
+  from = ≤F-trans (≤F-trans (neg-monoF limit-most) (≈F-ge (value-neg (b64 0x3fe9_9999_9999_999a)))) (nlt-value (U .lo) (neg (b64 0x3fe9_9999_9999_999a)) (small-finite 35 (U .lo) (h .small-lo)) (finite-neg (b64 0x3fe9_9999_9999_999a) limit-finite) (tests .0))
 
   to : value (U .hi) ≤F power 0
-  to = ≤F-trans (nlt-value (b64 0x3fe9_9999_9999_999a) (U .hi) (limit-finite .0) (small-finite 35 (U .hi) (h .small-hi)) (tests .1)) (limit-below .1)
+  to = ≤F-trans (nlt-value (b64 0x3fe9_9999_9999_999a) (U .hi) limit-finite (small-finite 35 (U .hi) (h .small-hi)) (tests .1)) limit-most
 
   near-in : In 0 u U
   near-in = record {
@@ -123,8 +123,8 @@ abbrev pub Sound : Turn → Fraction × Fraction → Type 0
 Sound (Turn.Found s c) x = In 36 (x .0) s × In 36 (x .1) c
 Sound Turn.None x = Unit {0}
 
-turned-in : (n : ℕ) {s c : Fraction} {S C : Interval} → In 36 s S → In 36 c C → Sound (interval.turned n S C) (turned n s c)
-unfolding turned interval.turned
+turned-in : (n : ℕ) {s c : Fraction} {S C : Interval} → In 36 s S → In 36 c C → Sound (float.turned n S C) (turned n s c)
+unfolding turned float.turned
 turned-in n {s} {c} {S} {C} h k = go (eqb n 0) (eqb n 1) (eqb n 2)
   where
     go : (x y z : Bool) → Sound (cond x (Turn.Found S C) (cond y (Turn.Found C (negation S)) (cond z (Turn.Found (negation S) (negation C)) (Turn.Found (negation C) S)))) (cond x (s, c) (cond y (c, negF s) (cond z (negF s, negF c) (negF c, s))))
@@ -152,7 +152,7 @@ module _ (d : Description) {t w : Fraction} {I : Interval} (h : In 23 t I) (betw
   unfolding turn leaf
   turn-holds = go (not (reducible I)) (beyond U) (λ near. near-in (reduced-in h between) near)
     where
-      go : (x y : Bool) → (T (not y) → In 0 u U) → Sound (cond x Turn.None (cond y Turn.None (interval.turned (modFour (quarterNumber (mid I))) (sineAt (leaf d) U) (cosineAt (leaf d) U)))) (turned (modFour (quarterNumber (mid I))) (sinePolynomial u +F e) (cosinePolynomial u +F f))
+      go : (x y : Bool) → (T (not y) → In 0 u U) → Sound (cond x Turn.None (cond y Turn.None (float.turned (modFour (quarterNumber (mid I))) (sineAt (leaf d) U) (cosineAt (leaf d) U)))) (turned (modFour (quarterNumber (mid I))) (sinePolynomial u +F e) (cosinePolynomial u +F f))
       go true y n = tt
       go false true n = tt
       go false false n = turned-in (modFour (quarterNumber (mid I))) (sine-in (n tt)) (cosine-in (n tt))

@@ -79,11 +79,11 @@ module _ (d : Description) (lo hi : List ℤ) where
   abbrev pub quarter : ℕ → ℤ
   quarter i = quarterOf (product (point (mid (ends lo hi i))) (turns d))
 
-  -- "k = w/a"
+  -- the wave number of the formula below, "With k = w/a"
   abbrev pub wave : Fraction → Fraction
   wave w = w /F period
 
-  -- "u = (m/a − q/4)w"
+  -- the angle that is left at the centre, "u = (m/a − q/4)w"
   abbrev pub angle : Fraction → ℕ → Fraction
   angle w i = (centreAt lo hi i /F period -F whole (quarter i) /F 4) *F w
 
@@ -109,7 +109,7 @@ module _ (d : Description) (lo hi : List ℤ) where
   abbrev pub c : Chosen → ℕ → Fraction
   c h i = waves h i .1
 
-  -- "g = sx·cy + sy·cz + sz·cx"
+  -- the surface's value at the centre, in document 01 "and g = sx·cy + sy·cz + sz·cx"
   abbrev pub g : Chosen → Fraction
   g h = s h 0 *F c h 1 +F s h 1 *F c h 2 +F s h 2 *F c h 0
 
@@ -129,12 +129,12 @@ module _ (d : Description) (lo hi : List ℤ) where
 
   -- ---- what an answer says: "every enclosure that holds them all", at every rational point of the box, its faces included
   abbrev pub Holds : Residual → Type 0
-  Holds (Residual.Enclosure l h) = (p : Point) → Inside lo hi p → (c : Chosen) → admitted c p ∈ record { lo = l; hi = h }
+  Holds (Residual.Enclosure low high) = (p : Point) → Inside lo hi p → (h : Chosen) → admitted h p ∈ record { lo = low; hi = high }
   Holds Residual.None = Unit {0}
 
   abbrev pub Settles : State → Type 0
-  Settles State.Inside = (p : Point) → Inside lo hi p → (c : Chosen) → admitted c p <F zeroF
-  Settles State.Outside = (p : Point) → Inside lo hi p → (c : Chosen) → zeroF <F admitted c p
+  Settles State.Inside = (p : Point) → Inside lo hi p → (h : Chosen) → admitted h p <F zeroF
+  Settles State.Outside = (p : Point) → Inside lo hi p → (h : Chosen) → zeroF <F admitted h p
   Settles State.Unsettled = Unit {0}
 
   -- some admitted residual of the box has the property P
