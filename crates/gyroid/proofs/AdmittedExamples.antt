@@ -1,5 +1,5 @@
--- One admitted residual, worked by computation: a ramp along y, a box whose quarter numbers are 1, 2 and −1, and a choice in which every error and e are
--- used. The fractions were worked out by a script of its own. Assumes nothing.
+-- One admitted residual, worked by computation: a ramp along y, a box whose quarter numbers are 1, 2 and −1, and a choice in which no error is
+-- zero. The fractions are those of a script that was written from document 01 alone. Assumes nothing.
 use mathlib.Core.Path.{_≡_, refl}
 use mathlib.Core.List.{List, [], _∷_}
 use Prim.Native.Nat.{ℕ, zero, suc}
@@ -7,14 +7,21 @@ use lib.Dec.{T, lit<}
 use lib.IntN.{ℤ, pos, negsuc, _*ℤ_}
 use lib.Signed.{leZ, leZ-yes}
 use lib.Ieee.{ofBits, toBits, isNan, neg, add, mul, lt, round}
-use Rattle.exact.specs.Fraction.{Fraction, denZ, ratio, _+F_, _-F_, _*F_, _/F_, negF, _≈F_, AbsF, minF, maxF, heldF}
+use Rattle.exact.specs.Fraction.{Fraction, denZ, ratio, whole, _+F_, _-F_, _*F_, _/F_, negF, _≤F_, _≈F_, AbsF, minF, maxF, heldF}
 use Rattle.interval.specs.Step.{nextUp, nextDown}
 use Rattle.interval.specs.Interval.{product, mid}
 use Rattle.interval.specs.Nearest.{fromRational}
 use Rattle.interval.specs.Floor.{quarterNumber}
-use Rattle.grade.specs.Grade.{minus, dot, Point, along, t, level}
+use Rattle.grade.specs.Grade as grade
+use Rattle.grade.specs.Grade.{at, ticks, minus, dot, Point, along, t, level}
+use Rattle.grade.specs.Exact.{linearOf, constantDef, compiled}
+use Rattle.grade.specs.Certified.{axis, distance, rise, linearCertification, certification}
+use Rattle.grade.specs.Holds.{Inside}
 use Rattle.grade.proofs.Axes.{three}
 use Rattle.gyroid.specs.declared.Description.{Description}
+use Rattle.gyroid.specs.Description.{inLimits, frameInLimits, partFrame}
+use Rattle.gyroid.specs.Refusals.{refusal}
+use Rattle.gyroid.specs.Fits.{Accepted}
 use Rattle.gyroid.specs.Admitted.{sinePolynomial, cosinePolynomial, sineTail, cosineTail, turned, Chosen, quarter, waves, admitted}
 
 abbrev description : Description
@@ -31,6 +38,13 @@ lows = pos 745 ∷ pos 1500 ∷ negsuc 756 ∷ []
 abbrev highs : List ℤ
 highs = pos 751 ∷ pos 1502 ∷ negsuc 738 ∷ []
 
+accepted : Accepted description
+unfolding refusal inLimits frameInLimits partFrame grade.inLimits minus dot linearOf constantDef compiled axis distance rise linearCertification certification
+accepted = record { none = refl }
+
+limits : T (ticks lows) × T (ticks highs)
+limits = (tt, tt)
+
 quarters : (quarter description lows highs 0 ≡ pos 1) × (quarter description lows highs 1 ≡ pos 2) × (quarter description lows highs 2 ≡ negsuc 0)
 unfolding ofBits toBits isNan neg add mul lt round nextUp nextDown product mid fromRational quarterNumber
 quarters = (refl, refl, refl)
@@ -42,7 +56,7 @@ decided l h = record { low = record { le = leZ-yes l }; high = record { le = leZ
 
 abbrev sine-error : ℕ → Fraction
 sine-error zero = ratio (pos 2097152) 35403383781909942626953125 (lit< tt)
-sine-error (suc zero) = ratio (pos 0) 1 (lit< tt)
+sine-error (suc zero) = ratio (pos 4194304) 106210151345729827880859375 (lit< tt)
 sine-error (suc (suc i)) = ratio (negsuc 4194303) 35403383781909942626953125 (lit< tt)
 
 abbrev cosine-error : ℕ → Fraction
@@ -72,6 +86,12 @@ place zero = ratio (pos 5241) 7 (lit< tt)
 place (suc zero) = ratio (pos 1501) 1 (lit< tt)
 place (suc (suc i)) = ratio (negsuc 2244) 3 (lit< tt)
 
-worked : admitted description lows highs chosen place ≈F ratio (negsuc 3365019240659292241864226673714572454509894885505980170177925093520307341932995301204266079029995641029157439448075721387536749223516626144171916723019502247650081074956232577440954313969055350041702508672743599468443868035877023458282323256993319545795850761354428827907674361832145976517723269900441836790267411921210355185834390288029000199087100783601808366167716530591096136791758226918882753119415782) 4072534404815028044062559070606464689805027151055716675470784334748827469412966303584162543254493039081290503651438957808431989410764292244292756598295121800554710604115172645927550362602042878074069487809379681178463170104843416434030441353540868190290163508969707644173888731147584714040825212678089861682518845061549972452752399476594291627407073974609375000000000000000000000000000000000000000000000000 (lit< tt)
+place-inside : Inside lows highs place
+place-inside = record {
+  above = three (λ i. whole (at lows i) ≤F place i) (record { le = leZ-yes tt }) (record { le = leZ-yes tt }) (record { le = leZ-yes tt });
+  below = three (λ i. place i ≤F whole (at highs i)) (record { le = leZ-yes tt }) (record { le = leZ-yes tt }) (record { le = leZ-yes tt });
+}
+
+worked : admitted description lows highs chosen place ≈F ratio (negsuc 3365019240659292241864788064448494962193758335891209804353945609268418906725240319281088369331298902437932097193040401161966649498145886514660062444357135543940577101472071936032918336783631996610010411137712302622124746626189279070246104824811412916195858954562497784823215851721941754021258653371009737199622486339777023192418397007463114310163264502541544218463000856991096136791758226918882753119415782) 4072534404815028044062559070606464689805027151055716675470784334748827469412966303584162543254493039081290503651438957808431989410764292244292756598295121800554710604115172645927550362602042878074069487809379681178463170104843416434030441353540868190290163508969707644173888731147584714040825212678089861682518845061549972452752399476594291627407073974609375000000000000000000000000000000000000000000000000 (lit< tt)
 unfolding chosen ofBits toBits isNan neg add mul lt round nextUp nextDown product mid fromRational quarterNumber _+F_ _-F_ _*F_ _/F_ negF minF maxF heldF minus dot along t level turned sinePolynomial cosinePolynomial waves admitted
 worked = record { eq = refl }

@@ -12,7 +12,7 @@ use Rattle.exact.proofs.Ring.{_⊕_, _⊗_}
 use Rattle.exact.proofs.FractionRing.{ringF}
 use Rattle.exact.proofs.Fraction.{≈F-refl, ≈F-trans, add-congF, sub-congF, mul-congF}
 use Rattle.interval.specs.Step.{b64}
-use Rattle.interval.proofs.Membership.{In, wider, equal-encloses, above-zero, below-zero}
+use Rattle.interval.proofs.Membership.{In, wider, above-zero, below-zero}
 use Rattle.grade.specs.Grade.{Point, ticks, level}
 use Rattle.grade.specs.Intervals.{boxAt}
 use Rattle.grade.specs.Fits.{Within3}
@@ -30,7 +30,7 @@ use Rattle.gyroid.proofs.AcceptedLaws.{Passed, accepted}
 use Rattle.gyroid.proofs.CentreLaws.{centre-in, point-in, centre-above, centre-below}
 use Rattle.gyroid.proofs.JetLaws.{perMillimetre, same-wave}
 use Rattle.gyroid.proofs.ExpansionLaws.{expansion-holds}
-use Rattle.gyroid.proofs.ResidualLaws.{Has, residual-has}
+use Rattle.gyroid.proofs.ResidualLaws.{Has, equal-has, residual-has}
 
 module _ (d : Description) (passed : Passed d) (lo hi : List ℤ) (low-in : Within3 1048576 lo) (high-in : Within3 1048576 hi) where
   -- ---- the box and its centre in millimetres hold the point and the exact centre
@@ -57,8 +57,11 @@ module _ (d : Description) (passed : Passed d) (lo hi : List ℤ) (low-in : With
     abbrev k : Fraction
     k = h .w *F perMillimetre d (passed .above)
 
-    -- in ticks it is the admitted residual
-    in-ticks : g d lo hi h +F (f 0 *F k *F o 0 +F f 1 *F k *F o 1 +F f 2 *F k *F o 2) +F h .e -F inUnits (level (d .level) p) ≈F admitted d lo hi h p
+    -- what the residual holds, per millimetre; in ticks it is the admitted residual
+    abbrev form : Fraction
+    form = g d lo hi h +F (f 0 *F k *F o 0 +F f 1 *F k *F o 1 +F f 2 *F k *F o 2) +F h .e -F inUnits (level (d .level) p)
+
+    in-ticks : form ≈F admitted d lo hi h p
     unfolding admitted
     in-ticks = sub-congF (add-congF (add-congF (≈F-refl (g d lo hi h))
         (≈F-trans (ringF 7 (λ k x y z a b c. x ⊗ k ⊗ a ⊕ y ⊗ k ⊗ b ⊕ z ⊗ k ⊗ c) (λ k x y z a b c. x ⊗ (k ⊗ a) ⊕ y ⊗ (k ⊗ b) ⊕ z ⊗ (k ⊗ c)) tt (k ∷ f 0 ∷ f 1 ∷ f 2 ∷ o 0 ∷ o 1 ∷ o 2 ∷ []))
@@ -69,12 +72,8 @@ module _ (d : Description) (passed : Passed d) (lo hi : List ℤ) (low-in : With
         step i = mul-congF (≈F-refl (f i)) (same-wave d (passed .above) (h .w) (p i -F centreAt lo hi i))
 
     admitted-has : Has (residual (leaf d) (tickBox lo hi)) (admitted d lo hi h p)
-    admitted-has = equal-has in-ticks (residual (leaf d) (tickBox lo hi))
+    admitted-has = equal-has form (admitted d lo hi h p) in-ticks (residual (leaf d) (tickBox lo hi))
         (residual-has d passed (tickBox lo hi) p (centreAt lo hi) (box-in p inside) (box-in (centreAt lo hi) centre-inside) middle-in (g d lo hi h) (h .e) (λ i. f i *F k) (expansion-holds d (passed .above) lo hi low-in high-in h p inside))
-      where
-        equal-has : {a b : Fraction} → a ≈F b → (r : Residual) → Has r a → Has r b
-        equal-has e (Residual.Enclosure l u) h = equal-encloses e h
-        equal-has e Residual.None h = tt
 
 -- ---- THE THEOREM
 module _ (d : Description) (none : Accepted d) (lo hi : List ℤ) (low-ticks : T (ticks lo)) (high-ticks : T (ticks hi)) where

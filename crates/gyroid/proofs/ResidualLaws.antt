@@ -37,9 +37,13 @@ abbrev pub Has : Residual → Fraction → Type 0
 Has (Residual.Enclosure lo hi) q = q ∈ record { lo = lo; hi = hi }
 Has Residual.None q = Unit {0}
 
-equal-has : {a b : Fraction} → a ≈F b → (r : Residual) → HoldsIn r a → Has r b
-equal-has e (Residual.Enclosure lo hi) h = equal-encloses e (h .has)
-equal-has e Residual.None h = tt
+pub equal-has : (a b : Fraction) → a ≈F b → (r : Residual) → Has r a → Has r b
+equal-has a b e (Residual.Enclosure lo hi) h = equal-encloses e h
+equal-has a b e Residual.None h = tt
+
+unsized : (a : Fraction) (r : Residual) → HoldsIn r a → Has r a
+unsized a (Residual.Enclosure lo hi) h = h .has
+unsized a Residual.None h = tt
 
 less-has : (a b u : Fraction) {U : Interval} → a -F u ≈F b → (r : Residual) → HoldsIn r a → In 100 u U → Has (lessLevel r U) b
 less-has a b u e (Residual.Enclosure lo hi) h k = equal-encloses e (sub-encloses tt h k .has)
@@ -62,11 +66,11 @@ module _
 
     -- ---- THE REGROUPING: a level that is l + s · (p − m) goes into the expansion
     affine-case : (l u : Fraction) (s : ℕ → Fraction) (L : Interval) (S : List Interval) → u ≈F l +F (s 0 *F o 0 +F s 1 *F o 1 +F s 2 *F o 2) → In 100 l L → ((i : ℕ) → i < 3 → In 100 (s i) (boxAt S i)) → Has (expansion (leaf d) w L S) (surface -F u)
-    affine-case l u s L S q level slope = equal-has (≈F-trans
+    affine-case l u s L S q level slope = equal-has (expandedAt v steep e l s o) (surface -F u) (≈F-trans
         (ringF 12 (λ v l e d0 d1 d2 s0 s1 s2 x y z. v ⊖ l ⊕ ((d0 ⊖ s0) ⊗ x ⊕ (d1 ⊖ s1) ⊗ y ⊕ (d2 ⊖ s2) ⊗ z ⊕ e))
         (λ v l e d0 d1 d2 s0 s1 s2 x y z. v ⊕ (d0 ⊗ x ⊕ d1 ⊗ y ⊕ d2 ⊗ z) ⊕ e ⊖ (l ⊕ (s0 ⊗ x ⊕ s1 ⊗ y ⊕ s2 ⊗ z))) tt
         (v ∷ l ∷ e ∷ steep 0 ∷ steep 1 ∷ steep 2 ∷ s 0 ∷ s 1 ∷ s 2 ∷ o 0 ∷ o 1 ∷ o 2 ∷ []))
-        (sub-congF (≈F-refl surface) (≈F-sym q))) (expansion (leaf d) w L S) (holds l s L S level slope)
+        (sub-congF (≈F-refl surface) (≈F-sym q))) (expansion (leaf d) w L S) (unsized (expandedAt v steep e l s o) (expansion (leaf d) w L S) (holds l s L S level slope))
 
     -- without a slope
     abbrev flat : ℕ → Fraction

@@ -1,5 +1,5 @@
--- Sizes of single doubles: a product's, a middle's, a fraction's nearest; and of a quarter number. A rounding keeps a bound 2 ^ k. Assumes
--- nothing.
+-- Sizes of single doubles: a product's, a middle's, a fraction's nearest; and of a floor and a quarter number. A rounding and a floor keep a
+-- bound 2 ^ k. Assumes nothing.
 use mathlib.Core.Path.{subst}
 use mathlib.Core.Bool.{true, false}
 use Prim.Native.Nat.{ℕ, suc, _+_, _-_, _*_, _/_, _^_, _≤_, _<_}
