@@ -8,7 +8,7 @@ use lib.IntN.{ℤ, pos, negsuc, _*ℤ_}
 use lib.Signed.{leZ, leZ-yes}
 use lib.Ieee.{ofBits, toBits, isNan, neg, add, mul, lt, round}
 use Rattle.exact.specs.Fraction.{Fraction, denZ, ratio, whole, _+F_, _-F_, _*F_, _/F_, negF, _≤F_, _≈F_, AbsF, minF, maxF, heldF}
-use Rattle.interval.specs.Step.{nextUp, nextDown}
+use Rattle.interval.specs.Step.{b64, nextUp, nextDown}
 use Rattle.interval.specs.Interval.{product, mid}
 use Rattle.interval.specs.Nearest.{fromRational}
 use Rattle.interval.specs.Floor.{quarterNumber}
@@ -22,7 +22,7 @@ use Rattle.gyroid.specs.declared.Description.{Description}
 use Rattle.gyroid.specs.Description.{inLimits, frameInLimits, partFrame}
 use Rattle.gyroid.specs.Refusals.{refusal}
 use Rattle.gyroid.specs.Fits.{Accepted}
-use Rattle.gyroid.specs.Admitted.{sinePolynomial, cosinePolynomial, sineTail, cosineTail, turned, Chosen, quarter, waves, admitted}
+use Rattle.gyroid.specs.Admitted.{tickBox, sinePolynomial, cosinePolynomial, sineTail, cosineTail, turned, Chosen, quarter, waves, admitted}
 
 abbrev description : Description
 description = record {
@@ -44,6 +44,11 @@ accepted = record { none = refl }
 
 limits : T (ticks lows) × T (ticks highs)
 limits = (tt, tt)
+
+-- a box of ticks is one that a caller can pass: the listing's inside cell, from 0 to 512 and twice from 0 to 1024, by the bits of its ends
+bits : tickBox (pos 0 ∷ pos 0 ∷ pos 0 ∷ []) (pos 512 ∷ pos 1024 ∷ pos 1024 ∷ []) ≡ record { lo = b64 0; hi = b64 0x3fe0_0000_0000_0000 } ∷ record { lo = b64 0; hi = b64 0x3ff0_0000_0000_0000 } ∷ record { lo = b64 0; hi = b64 0x3ff0_0000_0000_0000 } ∷ []
+unfolding ofBits round
+bits = refl
 
 quarters : (quarter description lows highs 0 ≡ pos 1) × (quarter description lows highs 1 ≡ pos 2) × (quarter description lows highs 2 ≡ negsuc 0)
 unfolding ofBits toBits isNan neg add mul lt round nextUp nextDown product mid fromRational quarterNumber
