@@ -10,6 +10,7 @@ pub mod RangeLaws
 pub mod PieceLaws
 -- the same in intervals
 pub mod IntervalLaws
+pub mod LinearLaws
 pub mod SlopeLaws
 -- certification, planes
 pub mod AxisLaws

@@ -16,6 +16,20 @@ use Rattle.gyroid.specs.Refusals.{allFinite}
 use Rattle.gyroid.specs.Jet.{jet}
 use Rattle.gyroid.specs.Residual.{centre, radii, expanded, expansion, lessLevel, residualOn, residualBy, residual, affineBy, affineResidual, stateOf, boxState}
 
+-- ---- where the expansion is none, whatever the level
+module _ (g : Gyroid) (w : List Interval) (none : (level : Interval) (slope : List Interval) → expansion g w level slope ≡ None) where
+  on-none : (a : PieceAnswer) → residualOn a g w ≡ None
+  on-none (PieceAnswer.Found p) = none _ _
+  on-none PieceAnswer.None = ap (λ (r : Residual). lessLevel r (interval (g .intervals) w)) (none zero zeros)
+
+  pub none-residual : residual g w ≡ None
+  unfolding residual
+  none-residual = go (g .intervals .kind)
+    where
+      go : (k : LevelKind) → residualBy k g w ≡ None
+      go LevelKind.Constant = none (g .«interval_level») zeros
+      go LevelKind.Linear = on-none (piece (g .intervals) w)
+
 module _ (g : Gyroid) (w : List Interval) (t : T (not (allFinite w))) where
   expansion-none : (level : Interval) (slope : List Interval) → expansion g w level slope ≡ None
   unfolding expansion
@@ -25,17 +39,8 @@ module _ (g : Gyroid) (w : List Interval) (t : T (not (allFinite w))) where
       go true u = refl
       go false u = absurd u
 
-  on-none : (a : PieceAnswer) → residualOn a g w ≡ None
-  on-none (PieceAnswer.Found p) = expansion-none _ _
-  on-none PieceAnswer.None = ap (λ (r : Residual). lessLevel r (interval (g .intervals) w)) (expansion-none zero zeros)
-
   pub residual-none : residual g w ≡ None
-  unfolding residual
-  residual-none = go (g .intervals .kind)
-    where
-      go : (k : LevelKind) → residualBy k g w ≡ None
-      go LevelKind.Constant = expansion-none (g .«interval_level») zeros
-      go LevelKind.Linear = on-none (piece (g .intervals) w)
+  residual-none = none-residual g w expansion-none
 
   pub affine-residual-none : affineResidual g w ≡ None
   unfolding affineResidual

@@ -1,6 +1,8 @@
 -- The laws of the gyroid layer. The layers above cite what is `pub` here; the rest serves its proofs. Assumes nothing.
--- a description that no number refuses, and its leaf's Lipschitz bound
+-- a description that no number refuses, its leaf, and that one's Lipschitz bound
+pub mod NetworkLaws
 pub mod AcceptedLaws
+pub mod LeafLaws
 pub mod LipschitzLaws
 -- THE ENCLOSURE: every admitted residual lies in what `residual` answers; and there are such residuals
 pub mod SecondOrder
@@ -12,14 +14,11 @@ mod TurnLaws
 mod JetLaws
 mod ExpansionLaws
 mod ResidualLaws
+-- one axis at a time: the three parts of a box joined are its residual
+pub mod PartLaws
 -- boxes with an infinite end
 pub mod InfiniteLaws
--- the axis that `planes` answers
-pub mod PlanesLaws
--- document 01's marked values
-pub mod MarkedValues
 -- what the proofs of the code cite
 mod TurnSizes
-mod CallLaws
 -- worked by computation
 mod AdmittedExamples

@@ -1,5 +1,4 @@
--- Sizes that the tests of `turn` and of refusal 10 leave: a reducible turn has a quarter number, and so has a near point in doubles. Assumes
--- nothing.
+-- The size that the tests of `turn` leave: a reducible turn has a quarter number. Assumes nothing.
 use mathlib.Core.Bool.{_&&_}
 use lib.Dec.{T, lit≤}
 use lib.Ieee.{Float, neg, lt, ofBits}

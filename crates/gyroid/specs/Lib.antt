@@ -7,13 +7,7 @@ pub mod Leaf
 pub mod Turn
 pub mod Jet
 pub mod Residual
+pub mod Parts
 pub mod Admitted
--- "Beside the walk"
-pub mod Facet
-pub mod Derivatives
-pub mod Fast
--- the public calls, and document 01's marked values
-pub mod Calls
-pub mod Marked
 -- what the layer's functions ask of their arguments
 pub mod Fits

@@ -1,6 +1,7 @@
 -- `expansion`, `residual`, `affine_residual` and `box_state`: "follow the Rust's order of operations". Definitions only; assumes nothing.
 use mathlib.Core.Bool.{cond, not}
 use mathlib.Core.List.{List, [], _∷_}
+use Prim.Native.Nat.{ℕ}
 use lib.Ieee.{Float, lt}
 use Rattle.interval.specs.declared.Interval.{Interval}
 use Rattle.interval.specs.Step.{b64}
@@ -54,9 +55,12 @@ bound k2 d r = sum (spread d r) (product k2 (curved r)) .hi
 abbrev pub held : Interval → Residual
 held v = Enclosure (v .lo) (v .hi)
 
--- the jet at the centre, the level there and its slope, the half-widths
+-- the value and the gradient at the centre, the level there and its slope, the half-widths
+abbrev pub aboutCentre : Interval → Interval → List Interval → Interval → List Interval → List Interval → Interval
+aboutCentre k2 value gradient level slope r = sum (difference value level) (symmetric (bound k2 (minus gradient slope) r))
+
 unfoldable pub expanded : Interval → Jet → Interval → List Interval → List Interval → Residual
-expanded k2 j level slope r = cond (not (j .found)) None (held (sum (difference (j .value) level) (symmetric (bound k2 (minus (j .gradient) slope) r))))
+expanded k2 j level slope r = cond (not (j .found)) None (held (aboutCentre k2 (j .value) (j .gradient) level slope r))
 
 unfoldable pub expansion : Gyroid → List Interval → Interval → List Interval → Residual
 expansion g w level slope = cond (not (allFinite w)) None (expanded (g .«wave_squared») (jet g (centre w)) level slope (radii w))
@@ -98,3 +102,9 @@ stateOf None = Unsettled
 
 unfoldable pub boxState : Gyroid → List Interval → State
 boxState g w = stateOf (residual g w)
+
+-- the table's numbers: "1 inside, 2 outside, 3 unsettled"
+abbrev pub stateNumber : State → ℕ
+stateNumber Inside = 1
+stateNumber Outside = 2
+stateNumber Unsettled = 3

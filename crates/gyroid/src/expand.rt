@@ -1,10 +1,7 @@
-// `expansion`: the residual over a box, to second order about its centre.
+// The surface over a box less a level, to second order about the centre.
 ghost use mathlib.Core.Path.{_≡_};
-ghost use Rattle.gyroid.specs.Residual.{centre, radius, radii, reach, spread, curvedOf, curved, bound, held, expanded, expansion};
-use crate::Gyroid;
-use crate::Jet;
+ghost use Rattle.gyroid.specs.Residual.{centre, radius, radii, reach, spread, curvedOf, curved, bound, held, aboutCentre};
 use crate::Residual;
-use crate::floats::all_finite;
 use crate::jets::minus;
 use crate::turns::symmetric;
 use interval::Interval;
@@ -20,7 +17,7 @@ pub fn centre(w: [Interval; 3]) -> [Interval; 3]
 }
 
 // The half-width of an interval.
-fn radius(b: Interval) -> f64
+pub fn radius(b: Interval) -> f64
     ensures { λ r. ⌜ r ≡ radius b ⌝ }
 {
     let m = Interval::point(b.mid());
@@ -85,33 +82,17 @@ pub fn held(v: Interval) -> Residual
     Residual::Enclosure { lo: v.lo, hi: v.hi }
 }
 
-fn expanded(
+// The surface over a box, of this value and gradient at the centre, less a level that is `level` there and has the gradient `slope`.
+pub fn about_centre(
     k2: Interval,
-    jet: Jet,
+    value: Interval,
+    gradient: [Interval; 3],
     level: Interval,
     slope: [Interval; 3],
     r: [Interval; 3],
-) -> Residual
-    ensures { λ s. ⌜ s ≡ expanded k2 jet level slope r ⌝ }
+) -> Interval
+    ensures { λ s. ⌜ s ≡ aboutCentre k2 value gradient level slope r ⌝ }
 {
-    if !jet.found {
-        return Residual::None;
-    }
-    let gradient = jet.gradient;
     let reach = bound(k2, minus(gradient, slope), r);
-    held(jet.value.sub(level).add(symmetric(reach)))
-}
-
-impl Gyroid {
-    // For a level that is `level` at the centre and has the gradient `slope` over the box.
-    pub fn expansion(self, world: [Interval; 3], level: Interval, slope: [Interval; 3]) -> Residual
-        ensures { λ r. ⌜ r ≡ expansion self world level slope ⌝ }
-    {
-        if !all_finite(world) {
-            return Residual::None;
-        }
-        let jet = self.jet(centre(world));
-        let r = radii(world);
-        expanded(self.wave_squared, jet, level, slope, r)
-    }
+    value.sub(level).add(symmetric(reach))
 }

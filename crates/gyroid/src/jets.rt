@@ -7,7 +7,7 @@ use crate::Turn;
 use crate::Waves;
 use interval::Interval;
 
-fn value_at(
+pub fn value_at(
     sx: Interval,
     cx: Interval,
     sy: Interval,

@@ -1,22 +1,17 @@
-// The network gyroid over a description: what refuses it, the leaf that it compiles to, the jet and the residual over a box, and the
-// public calls. Here stand the types. Each function equals its definition in specs/, operation by operation.
+// The network gyroid over a description: what refuses it, the leaf that it compiles to, the jet and the residual over a box. Here stand
+// the types. Each function equals its definition in specs/, operation by operation.
 pub mod entries; // a description's limits and refusals
 pub mod leaf; // the compiled leaf
-mod turns; // sine and cosine of one turn coordinate
-mod jets; // the value and the gradient at a point
-mod expand; // the second-order expansion over a box
+pub mod turns; // sine and cosine of one turn coordinate
+pub mod jets; // the value and the gradient at a point
+pub mod expand; // the second-order expansion over a box
+pub mod parts; // what one axis of a box gives to the residual, and the three joined
 mod residuals; // the residual, and the state that it gives a box
-mod facet; // the residual over a triangle
-mod hessian; // the gradient and the Hessian over a box
-mod fast; // the surface in doubles
-pub mod floats; // refusals of doubles
-mod answers; // what the layer answers, as the calls answer it
-pub mod calls; // the public calls
+pub mod floats; // doubles that are not infinite
 
 use grade::Grade;
 use grade::GradeDef;
 use grade::GradeIntervals;
-use grade::Piece;
 use interval::Interval;
 
 // The frame's rotation as a quaternion, and its translation in ticks. Only the part frame is accepted.
@@ -67,11 +62,6 @@ pub struct Circle {
     pub cosine: Interval,
 }
 
-pub struct FastCircle {
-    pub sine: f64,
-    pub cosine: f64,
-}
-
 // Sine and cosine of one turn coordinate, or nothing beyond the reduction's range.
 pub enum Turn {
     Found(Interval, Interval),
@@ -92,12 +82,29 @@ pub struct Jet {
     pub gradient: [Interval; 3],
 }
 
-// The gradient of g − c and the Hessian of g, row by row. Where `found` is false, all else but the refusal is zero.
-pub struct Derivatives {
-    pub refusal: u32,
+// An axis' share of a linear level's t, over the interval of a box on it and at the interval's middle. Of a constant level both are zero.
+pub struct Shares {
+    pub along: Interval,
+    pub middle: Interval,
+}
+
+// What the interval of a box on one axis gives to the residual: half its width, sine and cosine at its middle, and the level's shares.
+// Where `found` is false, all else is zero.
+pub struct Part {
     pub found: bool,
-    pub gradient: [Interval; 3],
-    pub hessian: [Interval; 9],
+    pub radius: f64,
+    pub sine: Interval,
+    pub cosine: Interval,
+    pub shares: Shares,
+}
+
+// The level about the centre of a box: its value there and its slope; across an anchor plane both are zero, and `range` is the level over
+// the whole box.
+pub struct LevelAbout {
+    pub at: Interval,
+    pub slope: [Interval; 3],
+    pub across: bool,
+    pub range: Interval,
 }
 
 // The residual g − c over a box.
@@ -110,46 +117,4 @@ pub enum State {
     Inside,
     Outside,
     Unsettled,
-}
-
-// What the corners of a triangle give: the least and the greatest rate, and the largest squared distance from the centroid.
-pub struct Corners {
-    pub lo: f64,
-    pub hi: f64,
-    pub reach: f64,
-}
-
-// ---- what the public calls answer: document 01's number, or what was found
-pub enum EnclosureAnswer {
-    Refused(u32),
-    Found { lo: f64, hi: f64 },
-    None,
-}
-
-pub enum StateAnswer {
-    Refused(u32),
-    Found(State),
-}
-
-pub enum LevelPieceAnswer {
-    Refused(u32),
-    Found(Piece),
-    None,
-}
-
-pub enum TruthAnswer {
-    Refused(u32),
-    Found(bool),
-    None,
-}
-
-pub enum PlanesAnswer {
-    Refused(u32),
-    Found { axis: usize, from: i64, to: i64 },
-    None,
-}
-
-pub enum DoubleAnswer {
-    Refused(u32),
-    Found(f64),
 }

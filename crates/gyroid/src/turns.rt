@@ -33,10 +33,28 @@ fn beyond(u: Interval) -> bool
     (u.lo < -0.8) | (0.8 < u.hi)
 }
 
-fn step(a: Interval, x: Interval, c: Interval) -> Interval
-    ensures { λ r. ⌜ r ≡ sum (product a x) c ⌝ }
+// A step of Horner's rule in both series side by side: neither waits for the other.
+fn step(a: Circle, x: Interval, s: Interval, c: Interval) -> Circle
+    ensures { λ r. ⌜ r ≡ record { sine = sum (product (a .sine) x) s; cosine = sum (product (a .cosine) x) c } ⌝ }
 {
-    a.mul(x).add(c)
+    Circle {
+        sine: a.sine.mul(x).add(s),
+        cosine: a.cosine.mul(x).add(c),
+    }
+}
+
+fn series(sines: [Interval; 9], cosines: [Interval; 9], x: Interval) -> Circle
+    ensures { λ r. ⌜ r ≡ record { sine = horner sines x 8; cosine = horner cosines x 8 } ⌝ }
+{
+    let sine = sines[8];
+    let cosine = cosines[8];
+    let mut a = Circle { sine, cosine };
+    let mut i: usize = 8;
+    while i > 0 {
+        i -= 1;
+        a = step(a, x, sines[i], cosines[i]);
+    }
+    a
 }
 
 // From the negative of x to x.
@@ -58,27 +76,12 @@ fn turned(m: u64, sine: Interval, cosine: Interval) -> Turn
 }
 
 impl Gyroid {
-    // Both series side by side: neither waits for the other.
-    fn series(self, x: Interval) -> Circle
-        ensures { λ r. ⌜ r ≡ record { sine = horner (self .sine) x 8; cosine = horner (self .cosine) x 8 } ⌝ }
-    {
-        let mut sine = self.sine[8];
-        let mut cosine = self.cosine[8];
-        let mut i: usize = 8;
-        while i > 0 {
-            i -= 1;
-            let s = self.sine[i];
-            let c = self.cosine[i];
-            sine = step(sine, x, s);
-            cosine = step(cosine, x, c);
-        }
-        Circle { sine, cosine }
-    }
-
     fn circle(self, u: Interval) -> Circle
         ensures { λ r. ⌜ r ≡ record { sine = sineAt self u; cosine = cosineAt self u } ⌝ }
     {
-        let s = self.series(u.square());
+        let sines = self.sine;
+        let cosines = self.cosine;
+        let s = series(sines, cosines, u.square());
         Circle {
             sine: s.sine.mul(u).add(symmetric(self.tail_sine)),
             cosine: s.cosine.add(symmetric(self.tail_cosine)),

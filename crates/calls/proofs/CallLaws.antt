@@ -1,0 +1,96 @@
+-- What the proofs of the public calls share: what a call owes the functions that it calls, and what its answer says. Assumes nothing.
+use mathlib.Core.Path.{_≡_, refl, subst⁻¹}
+use mathlib.Core.Bool.{not, _&&_}
+use mathlib.Core.List.{List}
+use lib.Dec.{T}
+use lib.IntN.{ℤ}
+use lib.Ieee.{Float, neg, le, ofBits}
+use Rattle.interval.specs.declared.Interval.{Interval}
+use Rattle.interval.specs.Interval.{point}
+use Rattle.interval.specs.Encloses.{Small}
+use Rattle.interval.proofs.Small.{small-between}
+use Rattle.grade.specs.declared.PieceAnswer.{PieceAnswer}
+use Rattle.grade.specs.Grade.{Point, ticks}
+use Rattle.grade.specs.Exact.{compiled, exactPiece}
+use Rattle.grade.specs.Holds.{Inside, SaysLevel}
+use Rattle.grade.specs.Said.{found}
+use Rattle.grade.specs.Refusals.{refused, _orElse_, above}
+use Rattle.grade.specs.Fits.{DefFits, Within3}
+use Rattle.grade.proofs.Entries.{both, ticks-within}
+use Rattle.grade.proofs.PieceLaws.{exact-piece-says}
+use Rattle.grade.proofs.RefusalLaws.{none-first, none-last, kept, neither}
+use Rattle.gyroid.specs.declared.Description.{Description}
+use Rattle.gyroid.specs.declared.Residual.{Residual}
+use Rattle.gyroid.specs.Refusals.{refusal, between}
+use Rattle.gyroid.specs.Leaf.{leaf}
+use Rattle.gyroid.specs.Residual.{residual, boxState}
+use Rattle.gyroid.specs.Admitted.{tickBox, Holds, Settles}
+use Rattle.gyroid.proofs.AcceptedLaws.{accepted}
+use Rattle.gyroid.proofs.LeafLaws.{leaf-grade, turns-small}
+use Rattle.gyroid.proofs.EnclosureLaws.{residual-holds, state-settles}
+use Rattle.calls.specs.declared.StateAnswer.{StateAnswer}
+use Rattle.calls.specs.Refusals.{farthest, allOrdered, allNear, boxRefusal}
+use Rattle.calls.specs.Fast.{pointAt}
+use Rattle.calls.specs.Fits.{FastFits, Near}
+use Rattle.calls.specs.Calls.{enclosureSaid, levelPieceSaid, residualAnswer, residualValues, pieceAnswer, pieceValues, pointBox, levelPieceRefusal, PieceSays, EnclosureHolds, StateSettles}
+
+-- ---- what `level_piece` has tested
+pub record PieceAccepted (d : Description) (lo hi : List ℤ) : Type 0 where
+  pub description : refusal d ≡ 0
+  pub low : Within3 1048576 lo
+  pub high : Within3 1048576 hi
+
+pub piece-accepted : (d : Description) (lo hi : List ℤ) → levelPieceRefusal d lo hi ≡ 0 → PieceAccepted d lo hi
+unfolding levelPieceRefusal
+piece-accepted d lo hi e =
+    let (a, e) = none-first (not (ticks lo && ticks hi)) 0 (refusal d orElse refused (above lo hi) 6) e in
+    let (b, _) = neither (refusal d) (refused (above lo hi) 6) e in
+    let (l, h) = both (ticks lo) (ticks hi) (kept (ticks lo && ticks hi) a) in
+    record { description = b; low = ticks-within lo l; high = ticks-within hi h }
+
+pub piece-said : (a : PieceAnswer) → levelPieceSaid (pieceAnswer a) ≡ found (pieceValues a)
+piece-said (PieceAnswer.Found p) = refl
+piece-said PieceAnswer.None = refl
+
+pub piece-says : (d : Description) (lo hi : List ℤ) → refusal d ≡ 0 → PieceSays d lo hi (pieceAnswer (exactPiece (compiled (d .level)) lo hi))
+piece-says d lo hi e = go (exactPiece (compiled (d .level)) lo hi) (exact-piece-says (d .level) lo hi (accepted d e .0 .apart))
+  where
+    go : (a : PieceAnswer) → ((q : Point) → Inside lo hi q → SaysLevel (d .level) q a) → PieceSays d lo hi (pieceAnswer a)
+    go (PieceAnswer.Found p) f = f
+    go PieceAnswer.None f = tt
+
+-- ---- what `residual` and `box_state` say of the admitted residuals
+pub residual-said : (r : Residual) → enclosureSaid (residualAnswer r) ≡ found (residualValues r)
+residual-said (Residual.Enclosure lo hi) = refl
+residual-said Residual.None = refl
+
+pub enclosure-holds : (d : Description) (w : List Interval) → refusal d ≡ 0 → EnclosureHolds d w (residualAnswer (residual (leaf d) w))
+enclosure-holds d w e = go (residual (leaf d) w) (λ lo hi l h q. subst⁻¹ (λ (x : List Interval). Holds d lo hi (residual (leaf d) x)) q (residual-holds d (record { none = e }) lo hi l h))
+  where
+    go : (r : Residual) → ((lo hi : List ℤ) → T (ticks lo) → T (ticks hi) → w ≡ tickBox lo hi → Holds d lo hi r) → EnclosureHolds d w (residualAnswer r)
+    go (Residual.Enclosure lo hi) f = f
+    go Residual.None f = tt
+
+pub state-settled : (d : Description) (w : List Interval) → refusal d ≡ 0 → StateSettles d w (StateAnswer.Found (boxState (leaf d) w))
+state-settled d w e = λ lo hi l h q. subst⁻¹ (λ (x : List Interval). Settles d lo hi (boxState (leaf d) x)) q (state-settles d (record { none = e }) lo hi l h)
+
+-- ---- what `fast_distance` has tested
+pub fast-fits : (d : Description) → refusal d ≡ 0 → FastFits (leaf d)
+fast-fits d e = let p = accepted d e .0 in record { turns = turns-small d p; grade = subst⁻¹ DefFits (leaf-grade d) (p .fits) }
+
+near-point : (x : Float) → T (between farthest (point x)) → Small 40 x
+unfolding ofBits neg
+near-point x t =
+    let (h, _) = both (le (neg farthest) x && le x farthest && le (neg farthest) x) (le x farthest) t in
+    let (h, _) = both (le (neg farthest) x && le x farthest) (le (neg farthest) x) h in
+    let (a, b) = both (le (neg farthest) x) (le x farthest) h in
+    small-between 40 x a b
+
+pub near : (p : List Float) → boxRefusal (pointBox p) ≡ 0 → Near p
+unfolding boxRefusal allNear
+near p e =
+    let (_, f) = none-first (not (allOrdered (pointBox p))) 8 (refused (not (allNear (pointBox p))) 10) e in
+    let t = kept (allNear (pointBox p)) (none-last (not (allNear (pointBox p))) 9 f) in
+    let (h, z) = both (between farthest (point (pointAt p 0)) && between farthest (point (pointAt p 1))) (between farthest (point (pointAt p 2))) t in
+    let (x, y) = both (between farthest (point (pointAt p 0))) (between farthest (point (pointAt p 1))) h in
+    record { x = near-point (pointAt p 0) x; y = near-point (pointAt p 1) y; z = near-point (pointAt p 2) z }

@@ -1,0 +1,16 @@
+-- By the definition, from the calls. Assumes nothing.
+use Rattle.calls.specs.Derivatives.{offDiagonal}
+use Rattle.calls.proofs.hessian.off_diagonal.Statement.{statement}
+use Rattle.calls.proofs.hessian.off_diagonal.Tie as tie
+
+returns : tie.Need-returns
+unfolding offDiagonal
+returns c =
+    let c3 = c .before .before .before in
+    let c4 = c3 .before in
+    rw (c .widened .ensures, c .before .sub .ensures, c .before .before .point .ensures, c3 .mul2 .ensures, c4 .mul .ensures)
+
+pub off-diagonal-spec : {M : Type 1} → statement M
+off-diagonal-spec =
+    tie.close
+    (tie.spec (λ _ _. tt) (λ _ _. tt) (λ _ _. tt) (λ _ _. tt) (λ _ _. tt) returns)

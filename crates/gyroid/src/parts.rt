@@ -1,0 +1,245 @@
+// `residual` one axis at a time: a halving renews one part of three.
+ghost use mathlib.Core.Path.{_≡_};
+ghost use Prim.Native.Nat.{_<_};
+ghost use Rattle.gyroid.specs.Residual.{expansion, stateOf};
+ghost use Rattle.gyroid.specs.Parts.{noShares, shares, noPart, part, centreLevel, aboutAt, levelAbout, joinedAbout, joinedOf, joined};
+use crate::Gyroid;
+use crate::LevelAbout;
+use crate::Part;
+use crate::Residual;
+use crate::Shares;
+use crate::State;
+use crate::Turn;
+use crate::expand::about_centre;
+use crate::expand::held;
+use crate::expand::radius;
+use crate::floats::finite;
+use crate::jets::gradient_at;
+use crate::jets::value_at;
+use grade::GradeIntervals;
+use grade::LevelKind;
+use grade::LinearIntervals;
+use grade::Piece;
+use grade::PieceAnswer;
+use grade::intervals::piece_of;
+use grade::intervals::zeros;
+use interval::Interval;
+
+impl Shares {
+    fn none() -> Shares
+        ensures { λ r. ⌜ r ≡ noShares ⌝ }
+    {
+        let zero = Interval::point(0.0);
+        Shares {
+            along: zero,
+            middle: zero,
+        }
+    }
+}
+
+// The kind is told first: a constant level's shares cost no copy of the linear level's numbers.
+fn shares(levels: GradeIntervals, axis: usize, b: Interval, m: Interval) -> Shares
+    requires { ⌜ axis < 3 ⌝ }
+    ensures { λ r. ⌜ r ≡ shares levels axis b m ⌝ }
+{
+    let kind = levels.kind;
+    match kind {
+        LevelKind::Constant => Shares::none(),
+        LevelKind::Linear => {
+            let linear = levels.linear;
+            Shares {
+                along: linear.along_axis(axis, b),
+                middle: linear.along_axis(axis, m),
+            }
+        }
+    }
+}
+
+impl Part {
+    fn none() -> Part
+        ensures { λ r. ⌜ r ≡ noPart ⌝ }
+    {
+        let zero = Interval::point(0.0);
+        Part {
+            found: false,
+            radius: 0.0,
+            sine: zero,
+            cosine: zero,
+            shares: Shares::none(),
+        }
+    }
+}
+
+// The level at the centre of a box that is one piece, t being m there.
+fn centre_level(linear: LinearIntervals, piece: Piece, m: Interval) -> Interval
+    ensures { λ r. ⌜ r ≡ centreLevel linear piece m ⌝ }
+{
+    match piece {
+        Piece::Start => linear.level_of(m.clamp01()),
+        Piece::Ramp => linear.level_of(m),
+        Piece::End => linear.level_of(m.clamp01()),
+    }
+}
+
+// The linear level about the centre, where t is m, of a box that has t.
+fn about_at(levels: GradeIntervals, t: Interval, m: Interval) -> LevelAbout
+    ensures { λ r. ⌜ r ≡ aboutAt levels t m ⌝ }
+{
+    let linear = levels.linear;
+    let zero = Interval::point(0.0);
+    match piece_of(t) {
+        PieceAnswer::Found(piece) => LevelAbout {
+            at: centre_level(linear, piece, m),
+            slope: levels.piece_gradient(piece),
+            across: false,
+            range: zero,
+        },
+        PieceAnswer::None => LevelAbout {
+            at: zero,
+            slope: zeros(),
+            across: true,
+            range: linear.level_of(t.clamp01()),
+        },
+    }
+}
+
+// Of a constant level, whose interval `level` is, or of a linear one from its shares. t is formed once, for the piece and for the range.
+fn level_about(
+    levels: GradeIntervals,
+    level: Interval,
+    x: Shares,
+    y: Shares,
+    z: Shares,
+) -> LevelAbout
+    ensures { λ r. ⌜ r ≡ levelAbout levels level x y z ⌝ }
+{
+    let kind = levels.kind;
+    match kind {
+        LevelKind::Constant => LevelAbout {
+            at: level,
+            slope: zeros(),
+            across: false,
+            range: Interval::point(0.0),
+        },
+        LevelKind::Linear => {
+            let linear = levels.linear;
+            let t = linear.parameter_of(x.along, y.along, z.along);
+            let m = linear.parameter_of(x.middle, y.middle, z.middle);
+            about_at(levels, t, m)
+        }
+    }
+}
+
+// The surface less a level that is `level` at the centre and has the gradient `slope`; k is the wave and k2 its square.
+fn joined_about(
+    k: Interval,
+    k2: Interval,
+    x: Part,
+    y: Part,
+    z: Part,
+    level: Interval,
+    slope: [Interval; 3],
+) -> Interval
+    ensures { λ r. ⌜ r ≡ joinedAbout k k2 x y z level slope ⌝ }
+{
+    let value = value_at(x.sine, x.cosine, y.sine, y.cosine, z.sine, z.cosine);
+    let gradient = gradient_at(x.sine, x.cosine, y.sine, y.cosine, z.sine, z.cosine, k);
+    let rx = Interval::point(x.radius);
+    let ry = Interval::point(y.radius);
+    let rz = Interval::point(z.radius);
+    let r = [rx, ry, rz];
+    about_centre(k2, value, gradient, level, slope, r)
+}
+
+// The residual over the box whose parts these are, from what it reads of the leaf.
+fn joined_of(
+    levels: GradeIntervals,
+    level: Interval,
+    k: Interval,
+    k2: Interval,
+    x: Part,
+    y: Part,
+    z: Part,
+) -> Residual
+    ensures { λ r. ⌜ r ≡ joinedOf levels level k k2 x y z ⌝ }
+{
+    if !(x.found & y.found & z.found) {
+        return Residual::None;
+    }
+    let about = level_about(levels, level, x.shares, y.shares, z.shares);
+    let slope = about.slope;
+    let v = joined_about(k, k2, x, y, z, about.at, slope);
+    if about.across {
+        return held(v.sub(about.range));
+    }
+    held(v)
+}
+
+// The state of that box. A walk passes these, and not the leaf, which is larger.
+pub fn joined_state(
+    levels: GradeIntervals,
+    level: Interval,
+    k: Interval,
+    k2: Interval,
+    x: Part,
+    y: Part,
+    z: Part,
+) -> State
+    ensures { λ r. ⌜ r ≡ stateOf (joinedOf levels level k k2 x y z) ⌝ }
+{
+    joined_of(levels, level, k, k2, x, y, z).state()
+}
+
+impl Gyroid {
+    pub fn part(self, axis: usize, b: Interval) -> Part
+        requires { ⌜ axis < 3 ⌝ }
+        ensures { λ r. ⌜ r ≡ part self axis b ⌝ }
+    {
+        if !finite(b) {
+            return Part::none();
+        }
+        let m = Interval::point(b.mid());
+        let Turn::Found(sine, cosine) = self.turn(m.mul(self.turns)) else {
+            return Part::none();
+        };
+        let levels = self.intervals;
+        Part {
+            found: true,
+            radius: radius(b),
+            sine,
+            cosine,
+            shares: shares(levels, axis, b, m),
+        }
+    }
+
+    // The residual over the box whose parts these are.
+    pub fn joined(self, x: Part, y: Part, z: Part) -> Residual
+        ensures { λ r. ⌜ r ≡ joined self x y z ⌝ }
+    {
+        let levels = self.intervals;
+        joined_of(
+            levels,
+            self.interval_level,
+            self.wave,
+            self.wave_squared,
+            x,
+            y,
+            z,
+        )
+    }
+
+    // The residual over a box of a level that is `level` at the centre and has the gradient `slope`.
+    pub fn expansion(self, world: [Interval; 3], level: Interval, slope: [Interval; 3]) -> Residual
+        ensures { λ r. ⌜ r ≡ expansion self world level slope ⌝ }
+    {
+        let x = self.part(0, world[0]);
+        let y = self.part(1, world[1]);
+        let z = self.part(2, world[2]);
+        if !(x.found & y.found & z.found) {
+            return Residual::None;
+        }
+        let k = self.wave;
+        let k2 = self.wave_squared;
+        held(joined_about(k, k2, x, y, z, level, slope))
+    }
+}
