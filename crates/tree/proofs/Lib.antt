@@ -1,0 +1,21 @@
+-- The laws of boxes and of the tree. The layers above cite what is `pub` here. Assumes nothing.
+-- boxes of ticks: spans, halves, the longest span, the number of tick cubes
+pub mod Spans
+pub mod HalfLaws
+pub mod BesideLaws
+pub mod LongestLaws
+pub mod VolumeLaws
+-- the box that the code holds
+pub mod TickLaws
+pub mod ShiftedLaws
+pub mod Coordinates
+mod ShiftedHalves
+-- the tree: one step of it, its numbers, induction over it
+pub mod StepLaws
+pub mod CountLaws
+pub mod TreeInduction
+pub mod SolidLaws
+-- the tick cubes of its cells, why each is a cell, and what more depth makes of them
+pub mod CoverLaws
+pub mod MarkedLaws
+pub mod DepthLaws

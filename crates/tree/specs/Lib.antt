@@ -1,0 +1,5 @@
+pub mod Box
+pub mod Beside
+pub mod Tree
+pub mod InTicks
+pub mod Cells
