@@ -1,0 +1,31 @@
+-- Worked by computation: a table of three slots and four spare bytes, for a box that is halved once on x. Assumes nothing.
+use mathlib.Core.Path.{_≡_, refl}
+use mathlib.Core.List.{List, [], _∷_, _++_}
+use Prim.Native.Nat.{ℕ}
+use lib.IntN.{pos, negsuc}
+use Rattle.table.specs.Table.{Mark, word4, word8, headBytes, cellBytes, cellsBytes, tableBytes}
+use Rattle.table.specs.Read.{marksIn, chain, markIn}
+
+lower : Mark
+lower = record { state = 1; box = record { lx = negsuc 1; ly = pos 0; lz = pos 0; hx = negsuc 0; hy = pos 1; hz = pos 1 } }
+
+upper : Mark
+upper = record { state = 3; box = record { lx = negsuc 0; ly = pos 0; lz = pos 0; hx = pos 0; hy = pos 1; hz = pos 1 } }
+
+bytes : List ℕ
+bytes =
+    (1 ∷ 0 ∷ 0 ∷ 0 ∷ 2 ∷ 0 ∷ 0 ∷ 0 ∷ 3 ∷ 0 ∷ 0 ∷ 0 ∷ 1 ∷ 0 ∷ 0 ∷ 0 ∷ [])
+    ++ (0 ∷ 0 ∷ 0 ∷ 0 ∷ 1 ∷ 0 ∷ 0 ∷ 0 ∷ 0 ∷ 0 ∷ 0 ∷ 0 ∷ 0 ∷ 0 ∷ 0 ∷ 0 ∷ [])
+    ++ (2 ∷ 0 ∷ 0 ∷ 0 ∷ 1 ∷ 0 ∷ 0 ∷ 0 ∷ 254 ∷ 255 ∷ 255 ∷ 255 ∷ 0 ∷ 0 ∷ 0 ∷ 0 ∷ [])
+    ++ (0 ∷ 0 ∷ 0 ∷ 0 ∷ 255 ∷ 255 ∷ 255 ∷ 255 ∷ 1 ∷ 0 ∷ 0 ∷ 0 ∷ 1 ∷ 0 ∷ 0 ∷ 0 ∷ [])
+    ++ (0 ∷ 0 ∷ 0 ∷ 0 ∷ 3 ∷ 0 ∷ 0 ∷ 0 ∷ 255 ∷ 255 ∷ 255 ∷ 255 ∷ 0 ∷ 0 ∷ 0 ∷ 0 ∷ [])
+    ++ (0 ∷ 0 ∷ 0 ∷ 0 ∷ 0 ∷ 0 ∷ 0 ∷ 0 ∷ 1 ∷ 0 ∷ 0 ∷ 0 ∷ 1 ∷ 0 ∷ 0 ∷ 0 ∷ [])
+    ++ (0 ∷ 0 ∷ 0 ∷ 0 ∷ [])
+
+written-bytes : tableBytes 100 3 1 1 (lower ∷ upper ∷ []) ≡ bytes
+unfolding tableBytes headBytes cellsBytes cellBytes word8 word4 lower upper bytes
+written-bytes = refl
+
+read-cells : marksIn bytes ≡ lower ∷ upper ∷ []
+unfolding chain markIn lower upper bytes
+read-cells = refl

@@ -1,0 +1,115 @@
+-- The numbers of a slot that stands at the front of a list. Assumes nothing.
+use mathlib.Core.Path.{_≡_, refl, sym, ap, _∙_}
+use mathlib.Core.List.{List, _++_}
+use Prim.Native.Nat.{ℕ, _+_, _*_, _/_, _%_, _<_}
+use native.Mathlib.Omega.{arith}
+use native.Mathlib.Nat.{add-assoc, add-zero}
+use lib.IntN.{ℤ}
+use lib.ListN.{drop, getD}
+use lib.Seq.{getD-drop}
+use Rattle.table.specs.Table.{Mark, word4, word8, bits, headBytes, cellBytes}
+use Rattle.table.specs.Read.{u32At, u64At, i32At, signed, nextIn, markIn}
+use Rattle.table.specs.Bounds.{FitsI32, Fits}
+use Rattle.table.proofs.Words.{digits, two-words, signed-bits, bits-below}
+
+-- ---- slot 0 at the front
+module _ (cells evaluated solid vacant : ℕ) (r : List ℕ) where
+  abbrev head : List ℕ
+  head = headBytes cells evaluated solid vacant ++ r
+
+  pub head-first : u32At head 0 ≡ 1
+  unfolding headBytes word4
+  head-first = refl
+
+  pub head-cells : cells < 4294967296 → u32At head 4 ≡ cells
+  unfolding headBytes word4
+  head-cells h = digits cells h
+
+  pub head-evaluated : evaluated < 4294967296 → u32At head 8 ≡ evaluated
+  unfolding headBytes word4
+  head-evaluated h = digits evaluated h
+
+  pub head-solid : solid < 18446744073709551616 → u64At head 12 ≡ solid
+  unfolding headBytes word8 word4
+  head-solid h = two-words solid (digits (solid % 4294967296) (omega arith)) (digits (solid / 4294967296) (omega arith))
+
+  pub head-open : vacant < 18446744073709551616 → u64At head 20 ≡ vacant
+  unfolding headBytes word8 word4
+  head-open h = two-words vacant (digits (vacant % 4294967296) (omega arith)) (digits (vacant / 4294967296) (omega arith))
+
+-- ---- a cell at the front
+coordinate : (z : ℤ) {w : ℕ} → FitsI32 z → w ≡ bits z % 256 + bits z / 256 % 256 * 256 + bits z / 65536 % 256 * 65536 + bits z / 16777216 % 256 * 16777216 → signed w ≡ z
+coordinate z h e = ap signed (e ∙ digits (bits z) (bits-below z h)) ∙ signed-bits z h
+
+module _ (next : ℕ) (m : Mark) (r : List ℕ) where
+  abbrev cell : List ℕ
+  cell = cellBytes next m ++ r
+
+  cell-next : next < 4294967296 → u32At cell 0 ≡ next
+  unfolding cellBytes word4
+  cell-next h = digits next h
+
+  cell-mark : Fits m → record {
+    state = u32At cell 4;
+    box = record {
+      lx = i32At cell 8;
+      ly = i32At cell 12;
+      lz = i32At cell 16;
+      hx = i32At cell 20;
+      hy = i32At cell 24;
+      hz = i32At cell 28;
+    };
+  } ≡ m
+  unfolding cellBytes word4
+  cell-mark h = λ i. record {
+    state = digits (m .state) (h .state) i;
+    box = record {
+      lx = coordinate (m .box .lx) (h .lx) refl i;
+      ly = coordinate (m .box .ly) (h .ly) refl i;
+      lz = coordinate (m .box .lz) (h .lz) refl i;
+      hx = coordinate (m .box .hx) (h .hx) refl i;
+      hy = coordinate (m .box .hy) (h .hy) refl i;
+      hz = coordinate (m .box .hz) (h .hz) refl i;
+    };
+  }
+
+-- ---- the same slot further on in a list
+word-later : (t : List ℕ) (n k : ℕ) → u32At t (n + k) ≡ u32At (drop n t) k
+word-later t n k = λ i. byte0 i + byte1 i * 256 + byte2 i * 65536 + byte3 i * 16777216
+  where
+    byte0 : getD t (n + k) 0 ≡ getD (drop n t) k 0
+    byte0 = sym (getD-drop n t k 0)
+
+    byte1 : getD t (n + k + 1) 0 ≡ getD (drop n t) (k + 1) 0
+    byte1 = ap (λ (j : ℕ). getD t j 0) (add-assoc n k 1) ∙ sym (getD-drop n t (k + 1) 0)
+
+    byte2 : getD t (n + k + 2) 0 ≡ getD (drop n t) (k + 2) 0
+    byte2 = ap (λ (j : ℕ). getD t j 0) (add-assoc n k 2) ∙ sym (getD-drop n t (k + 2) 0)
+
+    byte3 : getD t (n + k + 3) 0 ≡ getD (drop n t) (k + 3) 0
+    byte3 = ap (λ (j : ℕ). getD t j 0) (add-assoc n k 3) ∙ sym (getD-drop n t (k + 3) 0)
+
+word-at : (t f : List ℕ) (n k : ℕ) → drop n t ≡ f → u32At t (n + k) ≡ u32At f k
+word-at t f n k e = word-later t n k ∙ ap (λ (x : List ℕ). u32At x k) e
+
+module _ (t r : List ℕ) (slot next : ℕ) (m : Mark) (e : drop (32 * slot) t ≡ cellBytes next m ++ r) where
+  pub next-at : next < 4294967296 → nextIn t slot ≡ next
+  next-at h =
+      ap (λ (k : ℕ). u32At t k) (sym (add-zero (32 * slot))) ∙ word-at t (cellBytes next m ++ r) (32 * slot) 0 e ∙ cell-next next m r h
+
+  pub mark-at : Fits m → markIn t slot ≡ m
+  unfolding markIn
+  mark-at h =
+      let f : List ℕ = cellBytes next m ++ r in
+      (λ i. record {
+        state = word-at t f (32 * slot) 4 e i;
+        box = record {
+          lx = signed (word-at t f (32 * slot) 8 e i);
+          ly = signed (word-at t f (32 * slot) 12 e i);
+          lz = signed (word-at t f (32 * slot) 16 e i);
+          hx = signed (word-at t f (32 * slot) 20 e i);
+          hy = signed (word-at t f (32 * slot) 24 e i);
+          hz = signed (word-at t f (32 * slot) 28 e i);
+        };
+      })
+      ∙ cell-mark next m r h

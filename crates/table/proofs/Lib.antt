@@ -1,0 +1,15 @@
+-- The laws of the table. Assumes nothing.
+pub mod Stores
+pub mod Words
+pub mod Slots
+pub mod Written
+pub mod BoundLaws
+-- what is read, step by step
+pub mod ReadLaws
+-- the way back from the bytes
+mod Fronts
+pub mod ReadBack
+-- what the stores of the code's writers leave
+mod Stored
+-- worked by computation
+mod Examples

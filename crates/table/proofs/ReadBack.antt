@@ -1,0 +1,71 @@
+-- What is read from the bytes of a table is what was written. Assumes nothing.
+use mathlib.Core.Path.{_≡_, refl, sym, ap, _∙_}
+use mathlib.Core.List.{List, [], _∷_, _++_, append-assoc}
+use Prim.Native.Nat.{ℕ, suc, _+_, _-_, _*_, _<_}
+use native.Mathlib.Numerals.{add-one}
+use native.Mathlib.Omega.{arith}
+use borrow.Author.Tests.{eq-eqb, ne-eqb}
+use lib.ListN.{length, drop, replicate}
+use lib.Seq.{drop-drop, drop-at}
+use Rattle.table.specs.Table.{Mark, headBytes, cellBytes, nextSlot, cellsBytes, tableBytes}
+use Rattle.table.specs.Read.{firstIn, cellsIn, evaluatedIn, solidIn, openIn, nextIn, chain, chainEnd}
+use Rattle.table.specs.Bounds.{AllFit}
+use Rattle.table.specs.Told.{Told}
+use Rattle.table.proofs.Slots.{length-head, length-cell}
+use Rattle.table.proofs.Fronts.{head-first, head-cells, head-evaluated, head-solid, head-open, next-at, mark-at}
+
+-- the chain of cells that stand in a list from a slot on
+record Chained (t : List ℕ) (slot : ℕ) (ms : List Mark) : Type 0 where
+  marks-are : chain (length ms) t slot ≡ ms
+  ends : 0 < length ms → chainEnd (length ms) t slot ≡ 0
+
+chained : (t rest : List ℕ) (total slot : ℕ) (ms : List Mark) → AllFit ms → slot + length ms ≡ total + 1 → total < 4294967296
+    → drop (32 * slot) t ≡ cellsBytes total slot ms ++ rest → Chained t slot ms
+unfolding chain chainEnd cellsBytes
+chained t rest total slot [] g n h e = record { marks-are = refl; ends = λ p. absurd (omega arith) }
+chained t rest total slot (m ∷ []) g n h e =
+    let here : slot ≡ total = omega arith in
+    let next : nextSlot total slot ≡ 0 = rw (eq-eqb slot total here) in
+    let front = e ∙ append-assoc (cellBytes (nextSlot total slot) m) [] rest in
+    record {
+      marks-are = ap (λ (x : Mark). x ∷ []) (mark-at t rest slot (nextSlot total slot) m front (g .0));
+      ends = λ p. next-at t rest slot (nextSlot total slot) m front (omega arith) ∙ next;
+    }
+chained t rest total slot (m ∷ k ∷ ms) g n h e =
+    let next : nextSlot total slot ≡ suc slot = rw (ne-eqb slot total (λ q. omega arith)) (add-one slot) in
+    let later : List ℕ = cellsBytes total (suc slot) (k ∷ ms) ++ rest in
+    let first : List ℕ = cellBytes (nextSlot total slot) m in
+    let front : drop (32 * slot) t ≡ first ++ later = e ∙ append-assoc first (cellsBytes total (suc slot) (k ∷ ms)) rest in
+    let goes : nextIn t slot ≡ suc slot = next-at t later slot (nextSlot total slot) m front (omega arith) ∙ next in
+    let step : 32 * suc slot ≡ 32 * slot + 32 = omega arith in
+    let on : drop (32 * suc slot) t ≡ later =
+    ap (λ (j : ℕ). drop j t) step ∙ sym (drop-drop 32 (32 * slot) t) ∙ ap (λ (x : List ℕ). drop 32 x) front
+    ∙ drop-at first later 32 (length-cell (nextSlot total slot) m) in
+    let others = chained t rest total (suc slot) (k ∷ ms) (g .1) (omega arith) h on in
+    record {
+      marks-are = (λ i. mark-at t later slot (nextSlot total slot) m front (g .0) i ∷ chain (length (k ∷ ms)) t (goes i)) ∙ ap (λ (x : List Mark). m ∷ x) (others .marks-are);
+      ends = λ p. ap (λ (j : ℕ). chainEnd (length (k ∷ ms)) t j) goes ∙ others .ends (omega arith);
+    }
+
+pub told : (len evaluated solid vacant : ℕ) (ms : List Mark) → AllFit ms → length ms < 4294967296 → evaluated < 4294967296
+    → solid < 18446744073709551616 → vacant < 18446744073709551616 → Told (tableBytes len evaluated solid vacant ms) evaluated solid vacant ms
+unfolding tableBytes
+told len evaluated solid vacant ms g n he hs hv =
+    let head : List ℕ = headBytes (length ms) evaluated solid vacant in
+    let cells : List ℕ = cellsBytes (length ms) 1 ms in
+    let zeros : List ℕ = replicate (len - 32 * (length ms + 1)) 0 in
+    let t : List ℕ = head ++ cells ++ zeros in
+    let front : t ≡ head ++ (cells ++ zeros) = append-assoc head cells zeros in
+    let first : firstIn t ≡ 1 = ap firstIn front ∙ head-first (length ms) evaluated solid vacant (cells ++ zeros) in
+    let many : cellsIn t ≡ length ms = ap cellsIn front ∙ head-cells (length ms) evaluated solid vacant (cells ++ zeros) n in
+    let all = chained t zeros (length ms) 1 ms g (omega arith) n
+    (ap (λ (x : List ℕ). drop 32 x) front ∙ drop-at head (cells ++ zeros) 32 (length-head (length ms) evaluated solid vacant)) in
+    record {
+      first-is = first;
+      cells-are = many;
+      evaluated-is = ap evaluatedIn front ∙ head-evaluated (length ms) evaluated solid vacant (cells ++ zeros) he;
+      solid-is = ap solidIn front ∙ head-solid (length ms) evaluated solid vacant (cells ++ zeros) hs;
+      open-is = ap openIn front ∙ head-open (length ms) evaluated solid vacant (cells ++ zeros) hv;
+      marks-are = (λ i. chain (many i) t (first i)) ∙ all .marks-are;
+      ends = λ p. (λ i. chainEnd (many i) t (first i)) ∙ all .ends p;
+    }

@@ -1,0 +1,66 @@
+-- What the stores of each writer leave. Assumes nothing.
+use mathlib.Core.Path.{_≡_, refl, sym, ap, _∙_}
+use mathlib.Core.List.{List, _++_}
+use Prim.Native.Nat.{ℕ, _+_, _/_, _%_}
+use lib.ListN.{length-append, replicate}
+use lib.Seq.{sets}
+use Rattle.tree.specs.Box.{Box, unshifted, boxOf}
+use Rattle.tree.specs.declared.ShiftedBox.{ShiftedBox}
+use Rattle.tree.proofs.Coordinates.{coordinates}
+use Rattle.table.specs.Table.{word4, word8, bits, headBytes, cellBytes}
+use Rattle.table.proofs.Stores.{sets-then}
+use Rattle.table.proofs.Words.{length-word4, length-word8}
+
+-- a u64
+pub word8-stored : (l : List ℕ) (at x : ℕ) {m r : List ℕ} → m ≡ sets l at (word4 (x % 4294967296)) → r ≡ sets m (at + 4) (word4 (x / 4294967296)) → r ≡ sets l at (word8 x)
+unfolding word8
+word8-stored l at x e f = sets-then l at (word4 (x % 4294967296)) (word4 (x / 4294967296)) e f (simp length-word4)
+
+zero-word : word4 0 ≡ replicate 4 0
+unfolding word4
+zero-word = refl
+
+-- slot 0
+pub head-stored : (l : List ℕ) (cells evaluated solid vacant : ℕ) {m n o p q r : List ℕ} → m ≡ sets l 0 (word4 1) → n ≡ sets m 4 (word4 cells) → o ≡ sets n 8 (word4 evaluated)
+    → p ≡ sets o 12 (word8 solid) → q ≡ sets p 20 (word8 vacant) → r ≡ sets q 28 (word4 0) → r ≡ sets l 0 (headBytes cells evaluated solid vacant)
+unfolding headBytes
+head-stored l cells evaluated solid vacant e f g h i j =
+    let two : List ℕ = word4 1 ++ word4 cells in
+    let three : List ℕ = two ++ word4 evaluated in
+    let four : List ℕ = three ++ word8 solid in
+    let five : List ℕ = four ++ word8 vacant in
+    sets-then l 0 five (word4 0)
+    (sets-then l 0 four (word8 vacant)
+    (sets-then l 0 three (word8 solid)
+    (sets-then l 0 two (word4 evaluated)
+    (sets-then l 0 (word4 1) (word4 cells) e f (simp length-word4)) g
+    (simp (length-append, length-word4))) h
+    (simp (length-append, length-word4))) i
+    (simp (length-append, length-word4, length-word8))) j
+    (simp (length-append, length-word4, length-word8))
+    ∙ ap (λ (w : List ℕ). sets l 0 (five ++ w)) zero-word
+
+-- three coordinates
+abbrev corner : ℕ → ℕ → ℕ → List ℕ
+corner x y z = word4 (bits (unshifted x)) ++ word4 (bits (unshifted y)) ++ word4 (bits (unshifted z))
+
+pub corner-stored : (l : List ℕ) (at x y z : ℕ) {wx wy wz : ℕ} {m n r : List ℕ} → wx ≡ bits (unshifted x) → wy ≡ bits (unshifted y) → wz ≡ bits (unshifted z)
+    → m ≡ sets l at (word4 wx) → n ≡ sets m (at + 4) (word4 wy) → r ≡ sets n (at + 8) (word4 wz) → r ≡ sets l at (corner x y z)
+corner-stored l at x y z {wx} {wy} {wz} ex ey ez e f g =
+    sets-then l at (word4 wx ++ word4 wy) (word4 wz) (sets-then l at (word4 wx) (word4 wy) e f (simp length-word4)) g (simp (length-append, length-word4))
+    ∙ (λ k. sets l at (word4 (ex k) ++ word4 (ey k) ++ word4 (ez k)))
+
+-- the slot of a cell
+pub cell-stored : (l : List ℕ) (at next state : ℕ) (b : ShiftedBox) {m n p r : List ℕ} → m ≡ sets l at (word4 next) → n ≡ sets m (at + 4) (word4 state)
+    → p ≡ sets n (at + 8) (corner (b .lx) (b .ly) (b .lz)) → r ≡ sets p (at + 20) (corner (b .hx) (b .hy) (b .hz))
+    → r ≡ sets l at (cellBytes next (record { state = state; box = boxOf b }))
+unfolding cellBytes
+cell-stored l at next state b e f g h =
+    let lows : List ℕ = corner (b .lx) (b .ly) (b .lz) in
+    let highs : List ℕ = corner (b .hx) (b .hy) (b .hz) in
+    sets-then l at (word4 next ++ word4 state ++ lows) highs
+    (sets-then l at (word4 next ++ word4 state) lows
+    (sets-then l at (word4 next) (word4 state) e f (simp length-word4)) g
+    (simp (length-append, length-word4))) h
+    (simp (length-append, length-word4))
+    ∙ ap (λ (c : Box). sets l at (cellBytes next (record { state = state; box = c }))) (sym (coordinates b))

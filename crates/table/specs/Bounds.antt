@@ -1,0 +1,36 @@
+-- WHAT A SLOT HAS ROOM FOR. Definitions only; assumes nothing.
+use mathlib.Core.List.{List, [], _∷_}
+use Prim.Native.Nat.{_≤_, _<_}
+use lib.IntN.{ℤ, pos, negsuc}
+use lib.Signed.{_≤ℤ_}
+use Rattle.tree.specs.declared.ShiftedBox.{ShiftedBox}
+use Rattle.table.specs.Table.{Mark}
+
+-- the coordinates of the code's box are those of ticks of −2^20 to 2^20
+pub record WithinTicks (b : ShiftedBox) : Type 0 where
+  pub lx : b .lx ≤ 2097152
+  pub ly : b .ly ≤ 2097152
+  pub lz : b .lz ≤ 2097152
+  pub hx : b .hx ≤ 2097152
+  pub hy : b .hy ≤ 2097152
+  pub hz : b .hz ≤ 2097152
+
+-- an i32
+pub record FitsI32 (z : ℤ) : Type 0 where
+  pub least : negsuc 2147483647 ≤ℤ z
+  pub most : z ≤ℤ pos 2147483647
+
+-- a cell whose state is a u32 and whose coordinates are i32
+pub record Fits (m : Mark) : Type 0 where
+  pub state : m .state < 4294967296
+  pub lx : FitsI32 (m .box .lx)
+  pub ly : FitsI32 (m .box .ly)
+  pub lz : FitsI32 (m .box .lz)
+  pub hx : FitsI32 (m .box .hx)
+  pub hy : FitsI32 (m .box .hy)
+  pub hz : FitsI32 (m .box .hz)
+
+-- so are all cells of a list
+abbrev pub AllFit : List Mark → Type 0
+AllFit [] = Unit {0}
+AllFit (m ∷ ms) = Fits m × AllFit ms

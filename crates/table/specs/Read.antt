@@ -1,0 +1,68 @@
+-- WHAT A TABLE SAYS, read from its bytes by document 01's description of them alone: any list of bytes has a reading. Definitions only;
+-- assumes nothing.
+use mathlib.Core.Bool.{cond}
+use mathlib.Core.List.{List, [], _∷_}
+use Prim.Native.Nat.{ℕ, zero, suc, _+_, _-_, _*_}
+use lib.Dec.{ltb}
+use lib.IntN.{ℤ, pos, negsuc}
+use lib.ListN.{getD}
+use Rattle.table.specs.Table.{Mark}
+
+-- a u32, a u64 and an i32 at an index, "little endian"
+abbrev pub u32At : List ℕ → ℕ → ℕ
+u32At t i = getD t i 0 + getD t (i + 1) 0 * 256 + getD t (i + 2) 0 * 65536 + getD t (i + 3) 0 * 16777216
+
+abbrev pub u64At : List ℕ → ℕ → ℕ
+u64At t i = u32At t i + u32At t (i + 4) * 4294967296
+
+abbrev pub signed : ℕ → ℤ
+signed w = cond (ltb w 2147483648) (pos w) (negsuc (4294967295 - w))
+
+abbrev pub i32At : List ℕ → ℕ → ℤ
+i32At t i = signed (u32At t i)
+
+-- ---- slot 0: "first cell (u32, 1), cells (u32), evaluated (u32), solid volume (u64), open volume (u64)"
+abbrev pub firstIn : List ℕ → ℕ
+firstIn t = u32At t 0
+
+abbrev pub cellsIn : List ℕ → ℕ
+cellsIn t = u32At t 4
+
+abbrev pub evaluatedIn : List ℕ → ℕ
+evaluatedIn t = u32At t 8
+
+abbrev pub solidIn : List ℕ → ℕ
+solidIn t = u64At t 12
+
+abbrev pub openIn : List ℕ → ℕ
+openIn t = u64At t 20
+
+-- ---- a cell's slot: "next slot (u32, zero ends the chain), state (u32 ..), three lows, three highs (i32)"
+abbrev pub nextIn : List ℕ → ℕ → ℕ
+nextIn t slot = u32At t (32 * slot)
+
+unfoldable pub markIn : List ℕ → ℕ → Mark
+markIn t slot = record {
+  state = u32At t (32 * slot + 4);
+  box = record {
+    lx = i32At t (32 * slot + 8);
+    ly = i32At t (32 * slot + 12);
+    lz = i32At t (32 * slot + 16);
+    hx = i32At t (32 * slot + 20);
+    hy = i32At t (32 * slot + 24);
+    hz = i32At t (32 * slot + 28);
+  };
+}
+
+-- ---- the chain: n cells from a slot on, and the slot that the last of them names
+unfoldable pub chain : ℕ → List ℕ → ℕ → List Mark
+chain zero t slot = []
+chain (suc n) t slot = markIn t slot ∷ chain n t (nextIn t slot)
+
+unfoldable pub chainEnd : ℕ → List ℕ → ℕ → ℕ
+chainEnd zero t slot = slot
+chainEnd (suc n) t slot = chainEnd n t (nextIn t slot)
+
+-- the cells of a table, in the order of its chain
+abbrev pub marksIn : List ℕ → List Mark
+marksIn t = chain (cellsIn t) t (firstIn t)

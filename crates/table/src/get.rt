@@ -1,0 +1,39 @@
+// What is read from a table: a number at an index, little endian.
+ghost use mathlib.Core.Path.{_≡_};
+ghost use Prim.Native.Nat.{_+_, _≤_, _<_};
+ghost use lib.ListN.{length};
+ghost use Rattle.table.specs.Read.{u32At, u64At, i32At};
+
+// A byte is below 256.
+fn wide(x: u8) -> usize
+    ensures { λ r. ⌜ r ≡ x ⌝ }
+    ensures { λ r. ⌜ r < 256 ⌝ }
+{
+    x as usize
+}
+
+pub fn u32_at(t: &[u8], at: usize) -> usize
+    requires { ⌜ at + 4 ≤ length (now t) ⌝ }
+    ensures { λ r. ⌜ r ≡ u32At (now (t .entry)) at ⌝ }
+    ensures { λ r. ⌜ r < 4294967296 ⌝ }
+{
+    wide(t[at]) + wide(t[at + 1]) * 256 + wide(t[at + 2]) * 65536 + wide(t[at + 3]) * 16777216
+}
+
+pub fn u64_at(t: &[u8], at: usize) -> usize
+    requires { ⌜ at + 8 ≤ length (now t) ⌝ }
+    ensures { λ r. ⌜ r ≡ u64At (now (t .entry)) at ⌝ }
+{
+    u32_at(t, at) + u32_at(t, at + 4) * 4294967296
+}
+
+pub fn i32_at(t: &[u8], at: usize) -> i64
+    requires { ⌜ at + 4 ≤ length (now t) ⌝ }
+    ensures { λ r. ⌜ r ≡ i32At (now (t .entry)) at ⌝ }
+{
+    let w = u32_at(t, at);
+    if w < 2147483648 {
+        return w as i64;
+    }
+    w as i64 - 4294967296
+}
