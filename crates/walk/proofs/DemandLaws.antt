@@ -1,0 +1,181 @@
+-- DEMAND 3: of an accepted description, a box of whole ticks within the limits with spans of at least 1, and a depth of 0 to 24, the bytes that the
+-- walk leaves say of the part what document 01 asks. Assumes nothing.
+use mathlib.Core.Path.{_≡_, refl, ap, _∙_, subst, subst⁻¹}
+use mathlib.Core.Bool.{Bool, true, false, cond, _&&_, _||_}
+use mathlib.Core.Logic.{_⊎_, inl, inr, ⊎-elim}
+use mathlib.Core.List.{List, [], _∷_}
+use Prim.Native.Nat.{ℕ, _-_, _≤_, _<_}
+use native.Mathlib.Omega.{arith}
+use native.Mathlib.Nat.{two-pow-succ, zero-add}
+use lib.Dec.{T}
+use lib.IntN.{ℤ, pos, negsuc}
+use lib.ListN.{length}
+use lib.Signed.{leZ}
+use borrow.Author.Tests.{eq-eqb}
+use Rattle.exact.specs.Within.{Within}
+use Rattle.exact.proofs.Size.{within-low, within-high}
+use Rattle.grade.specs.Grade.{tick, ticks}
+use Rattle.gyroid.specs.declared.Description.{Description}
+use Rattle.gyroid.specs.declared.State.{State}
+use Rattle.gyroid.specs.declared.State.the-variants.{Inside, Outside, Unsettled}
+use Rattle.gyroid.specs.Fits.{Accepted}
+use Rattle.gyroid.specs.Leaf.{leaf}
+use Rattle.gyroid.specs.Residual.{stateNumber}
+use Rattle.gyroid.specs.Admitted.{Settles}
+use Rattle.gyroid.proofs.EnclosureLaws.{state-settles}
+use Rattle.tree.specs.declared.Axis.the-variants.{X, Y, Z}
+use Rattle.tree.specs.Box.{Box, Good, lows, highs, longest, oneCube, volume, holdsCube, holders}
+use Rattle.tree.specs.Tree.{Cell, leaves}
+use Rattle.tree.specs.Cells.{All, Marked}
+use Rattle.tree.proofs.TickLaws.{good-ticks}
+use Rattle.tree.proofs.LongestLaws.{fair-longest}
+use Rattle.tree.proofs.VolumeLaws.{volume-small}
+use Rattle.tree.proofs.CountLaws.{boxes-leaves, leaves-le, leaves-least, leaves-small, boxes-small}
+use Rattle.tree.proofs.SolidLaws.{solid-le}
+use Rattle.tree.proofs.CoverLaws.{cover}
+use Rattle.tree.proofs.MarkedLaws.{marked}
+use Rattle.table.specs.Table.{Mark, tableBytes}
+use Rattle.table.specs.Read.{cellsIn, marksIn}
+use Rattle.table.specs.Bounds.{Fits, AllFit}
+use Rattle.table.specs.Told.{Told}
+use Rattle.table.proofs.BoundLaws.{good-fits}
+use Rattle.table.proofs.ReadBack.{told}
+use Rattle.walk.specs.Walk.{stateAt, isSettled, settled, inside, cellsOf, evaluatedOf, solidOf, openOf, markOf, marksOf, tableOf, roomRefusal, roomTable}
+use Rattle.walk.specs.Demand.{Every, Pairwise, boxesIn, AllBelowZero, AllAboveZero, Undecided, Demand}
+use Rattle.walk.proofs.MarkLaws.{marks-leaves, boxes-marks, every, pairwise}
+
+-- ---- a state by its number
+number-inside : (s : State) → stateNumber s ≡ 1 → s ≡ Inside
+number-inside Inside e = refl
+number-inside Outside e = absurd (omega arith)
+number-inside Unsettled e = absurd (omega arith)
+
+number-outside : (s : State) → stateNumber s ≡ 2 → s ≡ Outside
+number-outside Inside e = absurd (omega arith)
+number-outside Outside e = refl
+number-outside Unsettled e = absurd (omega arith)
+
+number-unsettled : (s : State) → stateNumber s ≡ 3 → s ≡ Unsettled
+number-unsettled Inside e = absurd (omega arith)
+number-unsettled Outside e = absurd (omega arith)
+number-unsettled Unsettled e = refl
+
+number-other : (s : State) → (stateNumber s ≡ 3 → ⊥) → (stateNumber s ≡ 1) ⊎ (stateNumber s ≡ 2)
+number-other Inside n = inl refl
+number-other Outside n = inr refl
+number-other Unsettled n = absurd (n refl)
+
+number-below : (s : State) → stateNumber s < 4294967296
+number-below Inside = omega arith
+number-below Outside = omega arith
+number-below Unsettled = omega arith
+
+-- ---- the ends of a good box are ticks
+joint : (a b : Bool) → T a → T b → T (a && b)
+joint true b t u = u
+joint false b t u = t
+
+end-tick : {z : ℤ} → Within 1048576 z → T (tick z)
+end-tick {z} w = joint (leZ (negsuc 1048575) z) (leZ z (pos 1048576)) (within-low w .le) (within-high w .le)
+
+three : (x y z : ℤ) → Within 1048576 x → Within 1048576 y → Within 1048576 z → T (ticks (x ∷ y ∷ z ∷ []))
+three x y z p q r = joint (tick x && tick y) (tick z) (joint (tick x) (tick y) (end-tick p) (end-tick q)) (end-tick r)
+
+lows-ticks : (b : Box) → Good b → T (ticks (lows b))
+lows-ticks b g = let t = good-ticks b g in three (b .lx) (b .ly) (b .lz) (t .lows X) (t .lows Y) (t .lows Z)
+
+highs-ticks : (b : Box) → Good b → T (ticks (highs b))
+highs-ticks b g = let t = good-ticks b g in three (b .hx) (b .hy) (b .hz) (t .highs X) (t .highs Y) (t .highs Z)
+
+-- a box that is not settled stops only as one tick cube
+cube-stops : (s : State) (c : Bool) → s ≡ Unsettled → (isSettled s || c) ≡ true → c ≡ true
+cube-stops s c e t = subst (λ (r : State). (isSettled r || c) ≡ true) e t
+
+module _ (d : Description) (accepted : Accepted d) (D : ℕ) where
+  -- ---- of one cell of the tree
+  module _ (c : Cell) (m : Marked (settled (leaf d)) longest D c) where
+    settles : Settles d (lows (c .box)) (highs (c .box)) (stateAt (leaf d) (c .box))
+    unfolding stateAt
+    settles = state-settles d accepted (lows (c .box)) (highs (c .box)) (lows-ticks (c .box) (m .good)) (highs-ticks (c .box) (m .good))
+
+    below-zero : stateNumber (stateAt (leaf d) (c .box)) ≡ 1 → AllBelowZero d (c .box)
+    below-zero e = subst (Settles d (lows (c .box)) (highs (c .box))) (number-inside (stateAt (leaf d) (c .box)) e) settles
+
+    above-zero : stateNumber (stateAt (leaf d) (c .box)) ≡ 2 → AllAboveZero d (c .box)
+    above-zero e = subst (Settles d (lows (c .box)) (highs (c .box))) (number-outside (stateAt (leaf d) (c .box)) e) settles
+
+    undecided : stateNumber (stateAt (leaf d) (c .box)) ≡ 3 → Undecided d D c
+    undecided e =
+        let u = number-unsettled (stateAt (leaf d) (c .box)) e in
+        record { not-settled = u; ended = ⊎-elim (λ k. inl k) (λ s. inr (cube-stops (stateAt (leaf d) (c .box)) (oneCube (c .box)) u s)) (m .why) }
+
+    fits : Fits (markOf (leaf d) c)
+    fits = good-fits (markOf (leaf d) c) (number-below (stateAt (leaf d) (c .box))) (m .good)
+
+  unsettled-number : (c : Cell) → Undecided d D c → stateNumber (stateAt (leaf d) (c .box)) ≡ 3
+  unsettled-number c u = ap stateNumber (u .not-settled)
+
+  -- ---- of the tree of a box
+  module _ (shallow : D ≤ 24) (b : Box) (good : Good b) where
+    abbrev cs : List Cell
+    cs = cellsOf (leaf d) D b
+
+    abbrev ms : List Mark
+    ms = marksOf (leaf d) cs
+
+    pub each : All (Marked (settled (leaf d)) longest D) cs
+    each = subst (λ (k : ℕ). All (Marked (settled (leaf d)) longest k) cs) (zero-add D) (marked (settled (leaf d)) longest fair-longest D 0 b good)
+
+    all-fit : (cs : List Cell) → All (Marked (settled (leaf d)) longest D) cs → AllFit (marksOf (leaf d) cs)
+    unfolding marksOf
+    all-fit [] q = tt
+    all-fit (c ∷ cs) q = (fits c (q .0), all-fit cs (q .1))
+
+    cells-many : length ms ≡ leaves (settled (leaf d)) longest D b
+    cells-many = marks-leaves (leaf d) D 0 b
+
+    pub solid-most : solidOf (leaf d) D b ≤ volume b
+    solid-most = solid-le (inside (leaf d)) (settled (leaf d)) longest fair-longest D 0 b good
+
+    pub read : (len : ℕ) → Told (tableBytes len (evaluatedOf (leaf d) D b) (solidOf (leaf d) D b) (openOf (leaf d) D b) ms) (evaluatedOf (leaf d) D b) (solidOf (leaf d) D b) (openOf (leaf d) D b) ms
+    read len =
+        let v = volume-small b good in
+        told len (evaluatedOf (leaf d) D b) (solidOf (leaf d) D b) (openOf (leaf d) D b) ms (all-fit cs each)
+        (omega (arith, cells-many, leaves-small (settled (leaf d)) longest D b shallow)) (omega (arith, boxes-small (settled (leaf d)) longest D b shallow))
+        (omega (arith, solid-most, v)) (omega (arith, v))
+
+    -- the tick cubes that a list of the tree's boxes holds
+    covered : (x y z : ℤ) → holders x y z (boxesIn ms) ≡ cond (holdsCube x y z b) 1 0
+    covered x y z = ap (holders x y z) (boxes-marks (leaf d) cs) ∙ cover (settled (leaf d)) longest fair-longest x y z D 0 b good
+
+    -- ---- what a table says whose reading this is
+    module _ (t : List ℕ) (r : Told t (evaluatedOf (leaf d) D b) (solidOf (leaf d) D b) (openOf (leaf d) D b) ms) where
+      holders-are : (x y z : ℤ) → holders x y z (boxesIn (marksIn t)) ≡ cond (holdsCube x y z b) 1 0
+      holders-are x y z = ap (λ (l : List Mark). holders x y z (boxesIn l)) (r .marks-are) ∙ covered x y z
+
+      cells-read : cellsIn t ≡ leaves (settled (leaf d)) longest D b
+      cells-read = r .cells-are ∙ cells-many
+
+      says : Demand d b D t
+      says = record {
+        one-cell = λ x y z h. holders-are x y z ∙ rw h;
+        no-cell = λ x y z h. holders-are x y z ∙ rw h;
+        inside = subst⁻¹ (Every (λ m. m .state ≡ 1 → AllBelowZero d (m .box))) (r .marks-are) (every (leaf d) _ _ below-zero cs each);
+        outside = subst⁻¹ (Every (λ m. m .state ≡ 2 → AllAboveZero d (m .box))) (r .marks-are) (every (leaf d) _ _ above-zero cs each);
+        unsettled = subst⁻¹ (λ (l : List Mark). Pairwise (λ m c. (m .state ≡ 3 → Undecided d D c) × (Undecided d D c → m .state ≡ 3)) l cs) (r .marks-are)
+            (pairwise (leaf d) _ _ (λ c m. (undecided c m, unsettled-number c)) cs each);
+        walk-order = subst⁻¹ (λ (l : List Mark). Pairwise (λ m c. m .box ≡ c .box) l cs) (r .marks-are) (pairwise (leaf d) _ _ (λ c m. refl) cs each);
+        marked = subst⁻¹ (Every (λ m. (m .state ≡ 3 → ⊥) → (m .state ≡ 1) ⊎ (m .state ≡ 2))) (r .marks-are) (every (leaf d) _ _ (λ c m. number-other (stateAt (leaf d) (c .box))) cs each);
+        evaluated = omega (arith, r .evaluated-is, cells-read, boxes-leaves (settled (leaf d)) longest D b);
+        evaluated-most = omega (arith, r .evaluated-is, boxes-leaves (settled (leaf d)) longest D b, leaves-le (settled (leaf d)) longest D b, two-pow-succ D);
+        evaluated-tree = r .evaluated-is;
+        first = r .first-is;
+        ends = r .ends (omega (arith, cells-many, leaves-least (settled (leaf d)) longest D b));
+        solid = r .solid-is;
+        rest = omega (arith, r .solid-is, r .open-is, solid-most);
+      }
+
+    -- DEMAND 3 of what an accepted walk leaves
+    pub demand : (len : ℕ) → roomRefusal (leaf d) D b len ≡ 0 → {t : List ℕ} → t ≡ roomTable (leaf d) D b len → Demand d b D t
+    unfolding roomTable tableOf
+    demand len room e = subst⁻¹ (Demand d b D) (e ∙ rw (eq-eqb _ 0 room)) (says _ (read len))

@@ -1,0 +1,87 @@
+-- What the step of the code at a box tells of the box's tree. Assumes nothing.
+use mathlib.Core.Path.{_≡_, refl, sym, ap, _∙_, subst}
+use mathlib.Core.Bool.{Bool, true, false, cond, _||_}
+use mathlib.Core.List.{_++_}
+use Prim.Native.Nat.{ℕ, zero, suc, _+_, _-_, _≤_, _<_}
+use native.Mathlib.Omega.{arith}
+use lib.Dec.{eqb, eqb·suc-zero}
+use Rattle.gyroid.specs.declared.Gyroid.{Gyroid}
+use Rattle.gyroid.specs.declared.State.{State}
+use Rattle.tree.specs.declared.Axis.{Axis}
+use Rattle.tree.specs.Box.{Box, Good, span, longest, oneCube, lower, upper}
+use Rattle.tree.specs.Tree.{Cell, stops, cells, leaves, boxes}
+use Rattle.tree.proofs.StepLaws.{IsCell, cell-deep, cell-stops, wide, halved}
+use Rattle.tree.proofs.LongestLaws.{fair-longest}
+use Rattle.walk.specs.declared.Step.{Step}
+use Rattle.walk.specs.Walk.{stateAt, isSettled, settled}
+use Rattle.walk.specs.Carried.{stepOf}
+
+true-false : {A : Type 0} → true ≡ false → A
+true-false e = let z : _≡_ {A = ℕ} 0 1 = ap (λ (t : Bool). cond t 0 1) e in absurd (omega arith)
+
+-- ---- the three tests of a step, in any order
+tested : (u v w : Bool) → (u || v || w) ≡ true → v ≡ false → (u || w) ≡ true
+tested true v w e f = refl
+tested false true w e f = true-false f
+tested false false w e f = e
+
+untested : (u v w : Bool) → (u || v || w) ≡ false → (v ≡ false) × ((u || w) ≡ false)
+untested true v w e = true-false e
+untested false true w e = true-false e
+untested false false w e = (refl, e)
+
+module _ (g : Gyroid) where
+  abbrev ends : ℕ → Box → Bool
+  ends d b = isSettled (stateAt g b) || eqb d 0 || oneCube b
+
+  -- ---- a cell
+  pub record AtCell (d : ℕ) (b : Box) (s : State) : Type 0 where
+    pub state : stateAt g b ≡ s
+    pub tree : IsCell (settled g) longest d b
+
+  ended : (d : ℕ) (b : Box) → ends d b ≡ true → IsCell (settled g) longest d b
+  ended zero b e = cell-deep (settled g) longest b
+  ended (suc d) b e = cell-stops (settled g) longest (suc d) b (tested (isSettled (stateAt g b)) (eqb (suc d) 0) (oneCube b) e (eqb·suc-zero d))
+
+  cell-by : (t : Bool) (d : ℕ) (b : Box) (s : State) → ends d b ≡ t → cond t (Step.Cell (stateAt g b)) (Step.Halves (longest b)) ≡ Step.Cell s → AtCell d b s
+  cell-by true d b s e f = record { state = cc; tree = ended d b e }
+  cell-by false d b s e f = let z : _≡_ {A = ℕ} 0 1 = cc in absurd (omega arith)
+
+  pub at-cell : (d : ℕ) (b : Box) (s : State) {r : State} → r ≡ stateAt g b → stepOf r d b ≡ Step.Cell s → AtCell d b s
+  unfolding stepOf
+  at-cell d b s own e = cell-by (ends d b) d b s refl (ap (λ (r : State). stepOf r d b) (sym own) ∙ e)
+
+  -- ---- a box that is halved on the axis a, its halves being l and h
+  pub record AtHalves (d : ℕ) (b : Box) (a : Axis) : Type 0 where
+    pub left : 0 < d
+    pub two : 2 ≤ span a b
+    pub leaves2 : {l h : Box} → l ≡ lower a b → h ≡ upper a b → leaves (settled g) longest d b ≡ leaves (settled g) longest (d - 1) l + leaves (settled g) longest (d - 1) h
+    pub boxes2 : {l h : Box} → l ≡ lower a b → h ≡ upper a b → boxes (settled g) longest d b ≡ 1 + boxes (settled g) longest (d - 1) l + boxes (settled g) longest (d - 1) h
+    pub cells2 : (k : ℕ) {l h : Box} → l ≡ lower a b → h ≡ upper a b
+        → cells (settled g) longest d k b ≡ cells (settled g) longest (d - 1) (suc k) l ++ cells (settled g) longest (d - 1) (suc k) h
+
+  positive : (d : ℕ) → eqb d 0 ≡ false → 0 < d
+  positive zero e = true-false e
+  positive (suc d) e = omega arith
+
+  halves-of : (d : ℕ) (b : Box) → Good b → 0 < d → stops (settled g) longest b ≡ false → AtHalves d b (longest b)
+  halves-of d b good p e =
+      let h = halved (settled g) longest fair-longest d b p e good in
+      record {
+        left = p;
+        two = wide (settled g) longest fair-longest b e good;
+        leaves2 = λ u v. h .leaves2 ∙ (λ i. leaves (settled g) longest (d - 1) (sym u i) + leaves (settled g) longest (d - 1) (sym v i));
+        boxes2 = λ u v. h .boxes2 ∙ (λ i. 1 + boxes (settled g) longest (d - 1) (sym u i) + boxes (settled g) longest (d - 1) (sym v i));
+        cells2 = λ k u v. h .cells2 k ∙ (λ i. cells (settled g) longest (d - 1) (suc k) (sym u i) ++ cells (settled g) longest (d - 1) (suc k) (sym v i));
+      }
+
+  halves-by : (t : Bool) (d : ℕ) (b : Box) (a : Axis) → Good b → ends d b ≡ t → cond t (Step.Cell (stateAt g b)) (Step.Halves (longest b)) ≡ Step.Halves a → AtHalves d b a
+  halves-by true d b a good e f = let z : _≡_ {A = ℕ} 0 1 = cc in absurd (omega arith)
+  halves-by false d b a good e f =
+      let axis : longest b ≡ a = cc in
+      let (p, q) = untested (isSettled (stateAt g b)) (eqb d 0) (oneCube b) e in
+      subst (AtHalves d b) axis (halves-of d b good (positive d p) q)
+
+  pub at-halves : (d : ℕ) (b : Box) (a : Axis) {r : State} → Good b → r ≡ stateAt g b → stepOf r d b ≡ Step.Halves a → AtHalves d b a
+  unfolding stepOf
+  at-halves d b a good own e = halves-by (ends d b) d b a good refl (ap (λ (r : State). stepOf r d b) (sym own) ∙ e)

@@ -1,0 +1,84 @@
+-- What the table of an accepted walk tells, and how much room each part of it needs: for layers that read a table by the walk's definition alone.
+-- Assumes nothing.
+use mathlib.Core.Path.{_≡_, subst⁻¹}
+use mathlib.Core.List.{List}
+use Prim.Native.Nat.{ℕ, _+_, _/_, _≤_, _<_}
+use native.Mathlib.Omega.{arith}
+use lib.Dec.{ltb, nltb→le}
+use lib.IntN.{ℤ, natAbs}
+use lib.ListN.{length}
+use borrow.Author.Tests.{eq-eqb}
+use Rattle.grade.proofs.RefusalLaws.{none-last, neither}
+use Rattle.gyroid.specs.declared.Description.{Description}
+use Rattle.gyroid.specs.declared.Gyroid.{Gyroid}
+use Rattle.gyroid.specs.declared.State.{State}
+use Rattle.gyroid.specs.declared.State.the-variants.{Inside, Outside, Unsettled}
+use Rattle.gyroid.specs.Refusals.{refusal}
+use Rattle.gyroid.specs.Fits.{Accepted}
+use Rattle.gyroid.specs.Leaf.{leaf}
+use Rattle.gyroid.specs.Residual.{stateNumber}
+use Rattle.tree.specs.Box.{Box, Good, boxFrom, longest}
+use Rattle.tree.proofs.VolumeLaws.{volume-small}
+use Rattle.tree.proofs.CountLaws.{boxes-small}
+use Rattle.table.specs.Table.{Mark}
+use Rattle.table.specs.Told.{Told}
+use Rattle.walk.specs.Walk.{stateAt, settled, cellsOf, evaluatedOf, solidOf, openOf, marksOf, tableOf, entryRefusal, roomRefusal, roomTable, walkNumber, walkTable}
+use Rattle.walk.specs.Demand.{Every}
+use Rattle.walk.proofs.CallLaws.{entered}
+use Rattle.walk.proofs.MarkLaws.{every, length-marks}
+use Rattle.walk.proofs.DemandLaws.{each, read, solid-most}
+
+-- one of document 01's three states, and a box of the tree
+pub record InTree (m : Mark) : Type 0 where
+  pub state : m .state ≤ 3
+  pub good : Good (m .box)
+
+-- of the bytes t, which have so many slots: what they tell, and its sizes
+pub record Tells (slots : ℕ) (t : List ℕ) (evaluated solid vacant : ℕ) (ms : List Mark) : Type 0 where
+  pub told : Told t evaluated solid vacant ms
+  pub fits : length ms + 1 ≤ slots
+  pub evaluated-small : evaluated < 4294967296
+  pub solid-small : solid < 18446744073709551616
+  pub open-small : vacant < 18446744073709551616
+  pub marks : Every InTree ms
+
+number-most : (s : State) → stateNumber s ≤ 3
+number-most Inside = omega arith
+number-most Outside = omega arith
+number-most Unsettled = omega arith
+
+-- the table behind all refusals
+room-left : (g : Gyroid) (D : ℕ) (b : Box) (len : ℕ) → roomRefusal g D b len ≡ 0 → length (marksOf g (cellsOf g D b)) + 1 ≤ len / 32
+unfolding roomRefusal
+room-left g D b len e = omega (arith, length-marks g (cellsOf g D b), nltb→le (len / 32) (length (cellsOf g D b) + 1) (none-last (ltb (len / 32) (length (cellsOf g D b) + 1)) 12 e))
+
+module _ (d : Description) (lo hi : List ℤ) (D : ℤ) (t : List ℕ) where
+  abbrev b : Box
+  b = boxFrom lo hi
+
+  abbrev depth : ℕ
+  depth = natAbs D
+
+  abbrev ms : List Mark
+  ms = marksOf (leaf d) (cellsOf (leaf d) depth b)
+
+  table-is : entryRefusal (refusal d) lo hi D ≡ 0 → roomRefusal (leaf d) depth b (length t) ≡ 0 → walkTable d lo hi D t ≡ tableOf (leaf d) depth b (length t)
+  unfolding walkTable roomTable
+  table-is e r = rw (eq-eqb _ 0 e, eq-eqb _ 0 r)
+
+  pub tells : walkNumber d lo hi D (length t) ≡ 0
+      → Tells (length t / 32) (walkTable d lo hi D t) (evaluatedOf (leaf d) depth b) (solidOf (leaf d) depth b) (openOf (leaf d) depth b) ms
+  unfolding walkNumber tableOf
+  tells none =
+      let (e, r) = neither (entryRefusal (refusal d) lo hi D) (roomRefusal (leaf d) depth b (length t)) none in
+      let h = entered (refusal d) lo hi D e in
+      let accepted : Accepted d = record { none = h .described } in
+      let v = volume-small b (h .good) in
+      record {
+        told = subst⁻¹ (λ (u : List ℕ). Told u (evaluatedOf (leaf d) depth b) (solidOf (leaf d) depth b) (openOf (leaf d) depth b) ms) (table-is e r) (read d accepted depth (h .depth-most) b (h .good) (length t));
+        fits = room-left (leaf d) depth b (length t) r;
+        evaluated-small = omega (arith, boxes-small (settled (leaf d)) longest depth b (h .depth-most));
+        solid-small = omega (arith, v, solid-most d accepted depth (h .depth-most) b (h .good));
+        open-small = omega (arith, v);
+        marks = every (leaf d) InTree _ (λ c m. record { state = number-most (stateAt (leaf d) (c .box)); good = m .good }) (cellsOf (leaf d) depth b) (each d accepted depth (h .depth-most) b (h .good));
+      }

@@ -1,0 +1,76 @@
+-- DEMAND 3 of the table that the walk leaves, a field for each of its sentences, which stand in quotes. "Demand 3 reads the cells, their states
+-- and slot 0's numbers of cells and evaluated from the table's bytes after the walk. The rest comes from description, box and D alone."
+-- Coordinates are signed ticks and points rational. Definitions only; assumes nothing.
+use mathlib.Core.Path.{_≡_}
+use mathlib.Core.Bool.{true, false}
+use mathlib.Core.List.{List, [], _∷_}
+use mathlib.Core.Logic.{_⊎_}
+use Prim.Native.Nat.{ℕ, suc, _+_, _*_, _^_, _≤_}
+use lib.IntN.{ℤ}
+use Rattle.exact.specs.Fraction.{zeroF, _<F_}
+use Rattle.grade.specs.Grade.{Point}
+use Rattle.grade.specs.Holds.{Inside}
+use Rattle.gyroid.specs.declared.Description.{Description}
+use Rattle.gyroid.specs.declared.State.the-variants.{Unsettled}
+use Rattle.gyroid.specs.Leaf.{leaf}
+use Rattle.gyroid.specs.Admitted.{Chosen, admitted}
+use Rattle.tree.specs.Box.{Box, lows, highs, oneCube, volume, holdsCube, holders}
+use Rattle.tree.specs.Tree.{Cell}
+use Rattle.table.specs.Table.{Mark}
+use Rattle.table.specs.Read.{firstIn, cellsIn, evaluatedIn, solidIn, openIn, marksIn, chainEnd}
+use Rattle.walk.specs.Walk.{stateAt, cellsOf, evaluatedOf, solidOf}
+
+-- every cell of the table has a property
+abbrev pub Every : (Mark → Type 0) → List Mark → Type 0
+Every P [] = Unit {0}
+Every P (m ∷ ms) = P m × Every P ms
+
+-- the cells of the table and those of the tree are as many, and have a property one by one
+abbrev pub Pairwise : (Mark → Cell → Type 0) → List Mark → List Cell → Type 0
+Pairwise P [] [] = Unit {0}
+Pairwise P [] (c ∷ cs) = ⊥
+Pairwise P (m ∷ ms) [] = ⊥
+Pairwise P (m ∷ ms) (c ∷ cs) = P m c × Pairwise P ms cs
+
+unfoldable pub boxesIn : List Mark → List Box
+boxesIn [] = []
+boxesIn (m ∷ ms) = m .box ∷ boxesIn ms
+
+module _ (d : Description) where
+  -- "its admitted residuals are those with its own centre and half-widths", at a rational point of a cell, "faces included"
+  abbrev pub AllBelowZero : Box → Type 0
+  AllBelowZero b = (p : Point) → Inside (lows b) (highs b) p → (h : Chosen d (lows b) (highs b)) → admitted d (lows b) (highs b) h p <F zeroF
+
+  abbrev pub AllAboveZero : Box → Type 0
+  AllAboveZero b = (p : Point) → Inside (lows b) (highs b) p → (h : Chosen d (lows b) (highs b)) → zeroF <F admitted d (lows b) (highs b) h p
+
+  -- the residual does not settle the cell's box, "and it stands at depth D or is one tick cube"
+  pub record Undecided (D : ℕ) (c : Cell) : Type 0 where
+    pub not-settled : stateAt (leaf d) (c .box) ≡ Unsettled
+    pub ended : (c .depth ≡ D) ⊎ (oneCube (c .box) ≡ true)
+
+  -- of the box b, the depth D and the bytes t
+  pub record Demand (b : Box) (D : ℕ) (t : List ℕ) : Type 0 where
+    -- "Each tick cube of the box is in exactly one cell,
+    pub one-cell : (x y z : ℤ) → holdsCube x y z b ≡ true → holders x y z (boxesIn (marksIn t)) ≡ 1
+    -- and no cube outside the box is in any."
+    pub no-cell : (x y z : ℤ) → holdsCube x y z b ≡ false → holders x y z (boxesIn (marksIn t)) ≡ 0
+    -- "At every rational point of a cell marked inside, all of the cell's admitted residuals are below zero."
+    pub inside : Every (λ m. m .state ≡ 1 → AllBelowZero (m .box)) (marksIn t)
+    -- "At every rational point of one marked outside, all are above zero."
+    pub outside : Every (λ m. m .state ≡ 2 → AllAboveZero (m .box)) (marksIn t)
+    -- "A cell is unsettled exactly when demand 2's residual doesn't settle its box and it stands at depth D or is one tick cube."
+    pub unsettled : Pairwise (λ m c. (m .state ≡ 3 → Undecided D c) × (Undecided D c → m .state ≡ 3)) (marksIn t) (cellsOf (leaf d) D b)
+    -- "The table's cells are the tree's, in walk order,
+    pub walk-order : Pairwise (λ m c. m .box ≡ c .box) (marksIn t) (cellsOf (leaf d) D b)
+    -- and one that isn't unsettled is marked inside or outside."
+    pub marked : Every (λ m. (m .state ≡ 3 → ⊥) → (m .state ≡ 1) ⊎ (m .state ≡ 2)) (marksIn t)
+    -- "Evaluated = 2 × cells − 1, at most 2^(D+1) − 1", and it is the number of boxes in the tree
+    pub evaluated : evaluatedIn t + 1 ≡ 2 * cellsIn t
+    pub evaluated-most : evaluatedIn t + 1 ≤ 2 ^ suc D
+    pub evaluated-tree : evaluatedIn t ≡ evaluatedOf (leaf d) D b
+    -- the chain starts at slot 1 and ends after the last cell; the volumes of slot 0
+    pub first : firstIn t ≡ 1
+    pub ends : chainEnd (cellsIn t) t (firstIn t) ≡ 0
+    pub solid : solidIn t ≡ solidOf (leaf d) D b
+    pub rest : solidIn t + openIn t ≡ volume b

@@ -1,0 +1,101 @@
+// The public call `walk`: it compiles its description, refuses by document 01's numbers, counts the whole tree and only then writes. It keeps
+// nothing.
+ghost use mathlib.Core.Path.{_≡_};
+ghost use Prim.Native.Nat.{_≤_};
+ghost use lib.IntN.{natAbs};
+ghost use lib.ListN.{length};
+ghost use Rattle.tree.specs.Box.{Good, boxOf, boxFrom};
+ghost use Rattle.walk.specs.Walk.{spans, depths, entryRefusal, roomRefusal, roomTable, walkNumber, walkTable};
+ghost use Rattle.walk.specs.Demand.{Demand};
+use crate::Node;
+use crate::Parts;
+use crate::fill::fill;
+use crate::tally::count;
+use grade::limits::ticks;
+use grade::refusals::or_else;
+use grade::refusals::refused;
+use gyroid::Description;
+use gyroid::Gyroid;
+use gyroid::parts::joined_state;
+use table::put::put_head;
+use table::put::zero;
+use tree::ShiftedBox;
+
+// Whether every span is at least 1.
+fn spans(lo: [i64; 3], hi: [i64; 3]) -> bool
+    ensures { λ r. ⌜ r ≡ spans lo hi ⌝ }
+{
+    (lo[0] < hi[0]) & (lo[1] < hi[1]) & (lo[2] < hi[2])
+}
+
+fn depths(depth: i64) -> bool
+    ensures { λ r. ⌜ r ≡ depths depth ⌝ }
+{
+    (0 <= depth) & (depth <= 24)
+}
+
+// The refusals before 13, of a description that `description` refuses.
+fn entries(description: u32, lo: [i64; 3], hi: [i64; 3], depth: i64) -> u32
+    ensures { λ r. ⌜ r ≡ entryRefusal description lo hi depth ⌝ }
+{
+    let limits = refused(!(ticks(lo) & ticks(hi)), 1);
+    let short = refused(!spans(lo, hi), 11);
+    let deep = refused(!depths(depth), 12);
+    or_else(limits, or_else(description, or_else(short, deep)))
+}
+
+// Of a compiled leaf and an accepted box and depth.
+fn run(g: Gyroid, b: ShiftedBox, depth: usize, table: &mut [u8]) -> u32
+    requires { ⌜ Good (boxOf b) ⌝ }
+    requires { ⌜ depth ≤ 24 ⌝ }
+    ensures answer { λ r. ⌜ r ≡ roomRefusal g depth (boxOf b) (length (now (table .entry))) ⌝ }
+    ensures left { λ _. ⌜ now (table .exit) ≡ roomTable g depth (boxOf b) (length (now (table .entry))) ⌝ }
+{
+    let p = Parts::of(g, b);
+    let levels = g.intervals;
+    let root = Node {
+        b,
+        p,
+        s: joined_state(
+            levels,
+            g.interval_level,
+            g.wave,
+            g.wave_squared,
+            p.x,
+            p.y,
+            p.z,
+        ),
+    };
+    let n = count(g, root, depth);
+    let total = n.cells;
+    let evaluated = n.evaluated;
+    zero(table);
+    if table.len() / 32 < total + 1 {
+        return 13;
+    }
+    put_head(table, total, evaluated, n.solid, b.volume() - n.solid);
+    fill(g, root, depth, table, 1, total);
+    0
+}
+
+// Over the box of the lows `lo` and the highs `hi`, in ticks. 0, or the number of the refusal.
+pub fn walk(
+    description: Description,
+    lo: [i64; 3],
+    hi: [i64; 3],
+    depth: i64,
+    table: &mut [u8],
+) -> u32
+    ensures answer { λ r. ⌜ r ≡ walkNumber description lo hi depth (length (now (table .entry))) ⌝ }
+    ensures left { λ _. ⌜ now (table .exit) ≡ walkTable description lo hi depth (now (table .entry)) ⌝ }
+    ensures demand { λ r. ⌜ (r ≡ 0 → Demand description (boxFrom lo hi) (natAbs depth) (now (table .exit))) ⌝ }
+{
+    let made = Gyroid::certified(description);
+    let number = entries(made.refusal, lo, hi, depth);
+    if number != 0 {
+        return number;
+    }
+    let leaf = made.leaf;
+    let b = ShiftedBox::of(lo, hi);
+    run(leaf, b, depth as usize, table)
+}

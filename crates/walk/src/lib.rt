@@ -1,0 +1,39 @@
+// The walk over a part box: a box is halved until it is settled, one tick cube, or at the last depth, and its cells are written to a lent
+// table. Here stand the types. `walk` is the public call.
+mod axes; // what each axis of a box gives to its residual
+mod visit; // a box of the tree: what is done at it, and its halves
+mod tally; // the whole tree, counted
+mod fill; // its cells, written
+pub mod calls; // the public call
+
+use gyroid::Part;
+use gyroid::State;
+use tree::Axis;
+use tree::ShiftedBox;
+
+// What each axis of a box gives to its residual. A halving renews one of them.
+pub struct Parts {
+    pub x: Part,
+    pub y: Part,
+    pub z: Part,
+}
+
+// A box of the tree, its parts and the state that they give it.
+pub struct Node {
+    pub b: ShiftedBox,
+    pub p: Parts,
+    pub s: State,
+}
+
+// A box is a cell, with its state, or it is halved.
+pub enum Step {
+    Cell(State),
+    Halves(Axis),
+}
+
+// The cells of a tree, its boxes, and the tick cubes of its inside cells.
+pub struct Counted {
+    pub cells: usize,
+    pub evaluated: usize,
+    pub solid: usize,
+}
