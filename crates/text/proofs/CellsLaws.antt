@@ -1,0 +1,82 @@
+-- From a line's numbers to the walk, and from the walk to what is printed. Assumes nothing.
+use mathlib.Core.Path.{_≡_, refl, sym, ap, _∙_, subst⁻¹}
+use mathlib.Core.Bool.{true, false}
+use mathlib.Core.List.{List, [], _∷_}
+use Prim.Native.Nat.{ℕ, _^_, _≤_, _<_}
+use native.Mathlib.Nat.{min-le-right}
+use native.Mathlib.Omega.{arith}
+use lib.IntN.{ℤ}
+use lib.ListN.{length, take, length-take, replicate, length-replicate}
+use lib.Signed.{mag}
+use mir.Syntax.{w64}
+use mir.Val.{toZ, ofZ}
+use Rattle.exact.proofs.Signed.{back}
+use Rattle.grade.specs.Grade.{at}
+use Rattle.grade.proofs.RefusalLaws.{refused-is, answer-is}
+use Rattle.table.specs.Table.{Mark}
+use Rattle.walk.specs.Demand.{Every}
+use Rattle.walk.proofs.TableLaws.{InTree, Tells, tells}
+use Rattle.text.specs.declared.parse.Line.{Line}
+use Rattle.text.specs.Line.{lineOf}
+use Rattle.text.specs.Listing.{refusedText, listing}
+use Rattle.text.specs.Appended.{Front}
+use Rattle.text.specs.Bounds.{AllShort}
+use Rattle.text.specs.Cells.{described, lowsIn, highsIn, depthIn, freshTable, numberOf, tableOf, walkedText, cellsText}
+use Rattle.text.proofs.FitLaws.{good-short, listing-fits}
+
+-- a number of the line, read back from its bits
+pub entry : (ns : List ℤ) (i : ℕ) → mag (at ns i) < 2 ^ 63 → toZ w64 (ofZ w64 (at ns i)) ≡ at ns i
+entry ns i h = back (record { sfits = h })
+
+-- ---- its listing fits the buffer
+short : (ms : List Mark) → Every InTree ms → AllShort ms
+short [] h = tt
+short (m ∷ ms) h = (good-short m (omega (arith, h .0 .state)) (h .0 .good), short ms (h .1))
+
+tells-fit : (t : List ℕ) {n evaluated solid vacant : ℕ} (ms : List Mark) → n ≡ 2048 → Tells n t evaluated solid vacant ms → length (listing t) ≤ 131072
+tells-fit t ms e w = listing-fits t _ _ _ ms (w .told) (omega (arith, w .fits)) (w .evaluated-small) (w .solid-small) (w .open-small) (short ms (w .marks))
+
+fits : (ns : List ℤ) → numberOf ns (length freshTable) ≡ 0 → length (listing (tableOf ns freshTable)) ≤ 131072
+unfolding numberOf tableOf freshTable
+fits ns e = tells-fit _ _ (omega (arith, length-replicate {A = ℕ} 65536 0)) (tells (described ns) (lowsIn ns) (highsIn ns) (depthIn ns) freshTable e)
+
+-- ---- what is printed
+pub fresh : replicate 65536 0 ≡ freshTable
+unfolding freshTable
+fresh = refl
+
+module _ (ns : List ℤ) {t : List ℕ} {n : ℕ} (table : t ≡ freshTable) (number : n ≡ numberOf ns (length t)) where
+  same : n ≡ numberOf ns (length freshTable)
+  same = number ∙ ap (λ (u : List ℕ). numberOf ns (length u)) table
+
+  pub text-refused : (n ≡ 0 → ⊥) → refusedText n ≡ walkedText ns
+  unfolding walkedText
+  text-refused h = refused-is refusedText (listing (tableOf ns freshTable)) same h
+
+  module _ (none : n ≡ 0) {u : List ℕ} (left : u ≡ tableOf ns t) where
+    listing-is : listing u ≡ listing (tableOf ns freshTable)
+    listing-is = ap listing (left ∙ ap (tableOf ns) table)
+
+    pub text-listed : listing u ≡ walkedText ns
+    unfolding walkedText
+    text-listed = answer-is (refusedText (numberOf ns (length freshTable))) same none listing-is
+
+    pub listing-small : length (listing u) ≤ 131072
+    listing-small = omega (arith, ap length listing-is, fits ns (sym same ∙ none))
+
+-- a buffer whose first r bytes are a text has any equal text there
+pub printed : {r : ℕ} {front x y : List ℕ} → x ≡ y → (front ≡ x) × (r ≡ length x) → (front ≡ y) × (r ≡ length y)
+printed e p = (p .0 ∙ e, p .1 ∙ ap length e)
+
+pub front-of : (r : ℕ) (out : List ℕ) {text : List ℕ} → (take r out ≡ text) × (r ≡ length text) → (take r out ≡ text) × ((r ≡ length text) × Front r out)
+front-of r out p =
+    let counted = p .1 ∙ ap length (sym (p .0)) in
+    (p .0, (p .1, (subst⁻¹ (λ (n : ℕ). n ≤ length out) (counted ∙ length-take r out) (min-le-right r (length out)), counted)))
+
+pub no-line : (t : List ℕ) {line : Line} → line ≡ lineOf t → line .ok ≡ false → refusedText 14 ≡ cellsText t
+unfolding cellsText
+no-line t e h = rw (ap (λ (l : Line). l .ok) (sym e) ∙ h)
+
+pub a-line : (t : List ℕ) {line : Line} → line ≡ lineOf t → line .ok ≡ true → walkedText (line .numbers) ≡ cellsText t
+unfolding cellsText
+a-line t e h = rw (ap (λ (l : Line). l .ok) (sym e) ∙ h) (ap (λ (l : Line). walkedText (l .numbers)) e)

@@ -1,0 +1,69 @@
+-- The printed lines, part by part, and their lengths. Assumes nothing.
+use mathlib.Core.Path.{_≡_, refl, sym, ap, _∙_}
+use mathlib.Core.List.{List, [], _∷_, _++_}
+use Prim.Native.Nat.{ℕ, _+_, _-_, _*_, _≤_, _<_}
+use native.Mathlib.Nat.{add-zero}
+use native.Mathlib.Omega.{arith}
+use lib.IntN.{ℤ}
+use lib.ListN.{length, length-append}
+use Rattle.table.specs.Table.{Mark}
+use Rattle.table.specs.Read.{u32At, firstIn, cellsIn, evaluatedIn, solidIn, openIn, markIn, chain}
+use Rattle.table.proofs.ReadLaws.{mark-is, chain-end, chain-step}
+use Rattle.text.specs.Decimal.{decimal, signedDecimal}
+use Rattle.text.specs.Listing.{spaced, headLine, cornerText, cellLine, cellLines, listing}
+use Rattle.text.specs.Appended.{cornerAt}
+
+pub head-is : (a b c d : ℕ) → headLine a b c d ≡ decimal a ++ spaced (decimal b) ++ spaced (decimal c) ++ spaced (decimal d) ++ (10 ∷ [])
+unfolding headLine
+head-is a b c d = refl
+
+pub length-head : (a b c d : ℕ) → length (headLine a b c d) ≡ length (decimal a) + length (decimal b) + length (decimal c) + length (decimal d) + 4
+length-head a b c d = rw head-is (simp length-append (omega arith))
+
+pub corner-is : (x y z : ℤ) → cornerText x y z ≡ spaced (signedDecimal x) ++ spaced (signedDecimal y) ++ spaced (signedDecimal z)
+unfolding cornerText
+corner-is x y z = refl
+
+pub length-corner : (x y z : ℤ) → length (cornerText x y z) ≡ length (signedDecimal x) + length (signedDecimal y) + length (signedDecimal z) + 3
+length-corner x y z = rw corner-is (simp length-append (omega arith))
+
+pub length-line : (m : Mark)
+    → length (cellLine m) ≡ length (decimal (m .state)) + length (cornerText (m .box .lx) (m .box .ly) (m .box .lz)) + length (cornerText (m .box .hx) (m .box .hy) (m .box .hz)) + 1
+unfolding cellLine
+length-line m = simp length-append (omega arith)
+
+-- ---- the line of the cell in a slot
+pub cell-is : (t : List ℕ) (slot : ℕ) → cellLine (markIn t slot) ≡ decimal (u32At t (32 * slot + 4)) ++ cornerAt t slot 8 ++ cornerAt t slot 20 ++ (10 ∷ [])
+unfolding cellLine
+cell-is t slot = ap cellLine (mark-is t slot)
+
+pub length-cell : (t : List ℕ) (slot : ℕ)
+    → length (cellLine (markIn t slot)) ≡ length (decimal (u32At t (32 * slot + 4))) + length (cornerAt t slot 8) + length (cornerAt t slot 20) + 1
+length-cell t slot = rw mark-is (length-line _)
+
+-- ---- the lines of a chain
+pub cells-end : (n : ℕ) (t : List ℕ) (slot : ℕ) → n ≤ 0 → cellLines (chain n t slot) ≡ []
+unfolding cellLines
+cells-end n t slot h = ap cellLines (chain-end n t slot h)
+
+-- the slot after this one is named at its start
+pub cells-step : (n : ℕ) (t : List ℕ) (slot : ℕ) {next : ℕ} → 0 < n → next ≡ u32At t (32 * slot + 0)
+    → cellLines (chain n t slot) ≡ cellLine (markIn t slot) ++ cellLines (chain (n - 1) t next)
+unfolding cellLines
+cells-step n t slot h e =
+    ap cellLines (chain-step n t slot h)
+    ∙ ap (λ (s : ℕ). cellLine (markIn t slot) ++ cellLines (chain (n - 1) t s)) (sym (e ∙ ap (u32At t) (add-zero (32 * slot))))
+
+pub length-cells-step : (n : ℕ) (t : List ℕ) (slot : ℕ) {next : ℕ} → 0 < n → next ≡ u32At t (32 * slot + 0)
+    → length (cellLines (chain n t slot)) ≡ length (cellLine (markIn t slot)) + length (cellLines (chain (n - 1) t next))
+length-cells-step n t slot {next} h e = rw (cells-step n t slot h e) (length-append (cellLine (markIn t slot)) (cellLines (chain (n - 1) t next)))
+
+-- ---- the whole, with its numbers as they are read
+module _ (t : List ℕ) {first cells evaluated solid vacant : ℕ} (f : first ≡ firstIn t) (n : cells ≡ cellsIn t) (e : evaluated ≡ evaluatedIn t)
+    (s : solid ≡ solidIn t) (v : vacant ≡ openIn t) where
+  pub listing-is : listing t ≡ headLine cells evaluated solid vacant ++ cellLines (chain cells t first)
+  unfolding listing
+  listing-is = sym (λ i. headLine (n i) (e i) (s i) (v i) ++ cellLines (chain (n i) t (f i)))
+
+  pub length-listing : length (listing t) ≡ length (headLine cells evaluated solid vacant) + length (cellLines (chain cells t first))
+  length-listing = rw listing-is (length-append (headLine cells evaluated solid vacant) (cellLines (chain cells t first)))

@@ -1,0 +1,21 @@
+-- HOW THE PRINTING FUNCTIONS WRITE: a text goes behind what is written already. Definitions only; assumes nothing.
+use mathlib.Core.Path.{_≡_}
+use mathlib.Core.List.{List, _++_}
+use Prim.Native.Nat.{ℕ, _+_, _*_, _≤_}
+use lib.ListN.{length, take}
+use Rattle.table.specs.Read.{i32At}
+use Rattle.text.specs.Listing.{cornerText}
+
+-- of a buffer's bytes before and after: the first `at` stand as they stood, the text stands behind them and ends before `next`
+pub record Appended (before : List ℕ) (at : ℕ) (text after : List ℕ) (next : ℕ) : Type 0 where
+  pub written : take next after ≡ take at before ++ text
+  pub next-is : next ≡ at + length text
+
+-- the lows or the highs of a slot, which start at a place of it
+abbrev pub cornerAt : List ℕ → ℕ → ℕ → List ℕ
+cornerAt t slot place =
+    cornerText (i32At t (32 * slot + place)) (i32At t (32 * slot + (place + 4))) (i32At t (32 * slot + (place + 8)))
+
+-- so many bytes at the front of a buffer. The second part follows from the first; a caller's `&out[..r]` asks for both
+abbrev pub Front : ℕ → List ℕ → Type 0
+Front r out = (r ≤ length out) × (r ≡ length (take r out))

@@ -1,0 +1,42 @@
+-- THE TEXT THAT PROGRAM `cells` PRINTS, document 01's words in quotes: it "prints cells, evaluated, solid, open, then state, lows, highs for
+-- each cell, or `refused N`. Single spaces stand between numbers and a newline ends every line." Definitions only; assumes nothing.
+use mathlib.Core.List.{List, [], _∷_, _++_}
+use Prim.Native.Nat.{ℕ}
+use lib.IntN.{ℤ}
+use Rattle.table.specs.Table.{Mark}
+use Rattle.table.specs.Read.{cellsIn, evaluatedIn, solidIn, openIn, marksIn}
+use Rattle.text.specs.Ascii.{ascii, space, newline}
+use Rattle.text.specs.Decimal.{decimal, signedDecimal}
+
+-- a number behind another
+abbrev pub spaced : List ℕ → List ℕ
+spaced number = space ∷ number
+
+-- "`refused N`"
+unfoldable pub refusedText : ℕ → List ℕ
+refusedText n = ascii "refused" ++ spaced (decimal n) ++ (newline ∷ [])
+
+-- "cells, evaluated, solid, open"
+unfoldable pub headLine : ℕ → ℕ → ℕ → ℕ → List ℕ
+headLine cells evaluated solid vacant =
+    decimal cells ++ spaced (decimal evaluated) ++ spaced (decimal solid) ++ spaced (decimal vacant) ++ (newline ∷ [])
+
+-- "state, lows, highs"
+unfoldable pub cornerText : ℤ → ℤ → ℤ → List ℕ
+cornerText x y z = spaced (signedDecimal x) ++ spaced (signedDecimal y) ++ spaced (signedDecimal z)
+
+unfoldable pub cellLine : Mark → List ℕ
+cellLine m =
+    decimal (m .state)
+    ++ cornerText (m .box .lx) (m .box .ly) (m .box .lz)
+    ++ cornerText (m .box .hx) (m .box .hy) (m .box .hz)
+    ++ (newline ∷ [])
+
+-- "for each cell"
+unfoldable pub cellLines : List Mark → List ℕ
+cellLines [] = []
+cellLines (m ∷ ms) = cellLine m ++ cellLines ms
+
+-- what is printed of a table: its cells in the order of its chain
+unfoldable pub listing : List ℕ → List ℕ
+listing t = headLine (cellsIn t) (evaluatedIn t) (solidIn t) (openIn t) ++ cellLines (marksIn t)

@@ -1,0 +1,199 @@
+// The text that program `cells` prints, put into lent bytes. A function that has `at` puts its text behind the first `at` bytes and answers
+// the index after it.
+ghost use mathlib.Core.Path.{_≡_};
+ghost use mathlib.Core.List.{[], _∷_};
+ghost use Prim.Native.Nat.{_+_, _*_, _≤_, _<_};
+ghost use lib.IntN.{natAbs};
+ghost use lib.ListN.{length, take};
+ghost use Rattle.exact.specs.Within.{Within};
+ghost use Rattle.table.specs.Read.{u32At, i32At, markIn, chain};
+ghost use Rattle.text.specs.Appended.{Appended, cornerAt};
+ghost use Rattle.text.specs.Decimal.{decimal, signedDecimal};
+ghost use Rattle.text.specs.Listing.{spaced, refusedText, headLine, cellLine, cellLines, listing};
+use crate::ascii::MINUS;
+use crate::ascii::NEWLINE;
+use crate::ascii::NOUGHT;
+use crate::ascii::SPACE;
+use table::get::i32_at;
+use table::get::u32_at;
+use table::get::u64_at;
+
+fn put_byte(out: &mut [u8], at: usize, b: usize) -> usize
+    requires { ⌜ at + 1 ≤ length (now out) ⌝ }
+    requires { ⌜ b < 256 ⌝ }
+    ensures { λ r. ⌜ Appended (now (out .entry)) at (b ∷ []) (now (out .exit)) r ⌝ }
+{
+    out[at] = b as u8;
+    at + 1
+}
+
+fn put_text(out: &mut [u8], at: usize, text: &[u8]) -> usize
+    requires { ⌜ at + length (now text) ≤ length (now out) ⌝ }
+    ensures { λ r. ⌜ Appended (now (out .entry)) at (now (text .entry)) (now (out .exit)) r ⌝ }
+{
+    let mut i = 0;
+    while i < text.len() {
+        out[at + i] = text[i];
+        i += 1;
+    }
+    at + i
+}
+
+// The digits before the last, and then the last.
+fn put_decimal(out: &mut [u8], at: usize, n: usize) -> usize
+    requires { ⌜ at + length (decimal n) ≤ length (now out) ⌝ }
+    ensures { λ r. ⌜ Appended (now (out .entry)) at (decimal n) (now (out .exit)) r ⌝ }
+{
+    if n < 10 {
+        return put_byte(out, at, NOUGHT + n);
+    }
+    let last = put_decimal(out, at, n / 10);
+    put_byte(out, last, NOUGHT + n % 10)
+}
+
+fn size(x: i64) -> usize
+    requires { ⌜ Within 2147483648 x ⌝ }
+    ensures { λ r. ⌜ r ≡ natAbs x ⌝ }
+{
+    if x < 0 {
+        return (0 - x) as usize;
+    }
+    x as usize
+}
+
+fn put_signed(out: &mut [u8], at: usize, x: i64) -> usize
+    requires { ⌜ Within 2147483648 x ⌝ }
+    requires { ⌜ at + length (signedDecimal x) ≤ length (now out) ⌝ }
+    ensures { λ r. ⌜ Appended (now (out .entry)) at (signedDecimal x) (now (out .exit)) r ⌝ }
+{
+    let n = size(x);
+    if x < 0 {
+        let next = put_byte(out, at, MINUS);
+        return put_decimal(out, next, n);
+    }
+    put_decimal(out, at, n)
+}
+
+// A number behind another.
+fn put_spaced(out: &mut [u8], at: usize, n: usize) -> usize
+    requires { ⌜ at + length (spaced (decimal n)) ≤ length (now out) ⌝ }
+    ensures { λ r. ⌜ Appended (now (out .entry)) at (spaced (decimal n)) (now (out .exit)) r ⌝ }
+{
+    let next = put_byte(out, at, SPACE);
+    put_decimal(out, next, n)
+}
+
+// A number of a slot; a chain may name slots past the table's end, and zeros are read there.
+fn u32_of(table: &[u8], slot: usize, place: usize) -> usize
+    requires { ⌜ length (now table) ≡ 65536 ⌝ }
+    requires { ⌜ place + 4 ≤ 32 ⌝ }
+    ensures { λ r. ⌜ r ≡ u32At (now (table .entry)) (32 * slot + place) ⌝ }
+    ensures { λ r. ⌜ r < 4294967296 ⌝ }
+{
+    if slot < 2048 {
+        return u32_at(table, 32 * slot + place);
+    }
+    0
+}
+
+fn i32_of(table: &[u8], slot: usize, place: usize) -> i64
+    requires { ⌜ length (now table) ≡ 65536 ⌝ }
+    requires { ⌜ place + 4 ≤ 32 ⌝ }
+    ensures { λ r. ⌜ r ≡ i32At (now (table .entry)) (32 * slot + place) ⌝ }
+{
+    if slot < 2048 {
+        return i32_at(table, 32 * slot + place);
+    }
+    0
+}
+
+fn put_coordinate(table: &[u8], slot: usize, place: usize, out: &mut [u8], at: usize) -> usize
+    requires { ⌜ length (now table) ≡ 65536 ⌝ }
+    requires { ⌜ place + 4 ≤ 32 ⌝ }
+    requires { ⌜ at + length (spaced (signedDecimal (i32At (now table) (32 * slot + place)))) ≤ length (now out) ⌝ }
+    ensures { λ r. ⌜ Appended (now (out .entry)) at (spaced (signedDecimal (i32At (now (table .entry)) (32 * slot + place)))) (now (out .exit)) r ⌝ }
+{
+    let x = i32_of(table, slot, place);
+    let next = put_byte(out, at, SPACE);
+    put_signed(out, next, x)
+}
+
+// Three coordinates of a slot.
+fn put_corner(table: &[u8], slot: usize, place: usize, out: &mut [u8], at: usize) -> usize
+    requires { ⌜ length (now table) ≡ 65536 ⌝ }
+    requires { ⌜ place + 12 ≤ 32 ⌝ }
+    requires { ⌜ at + length (cornerAt (now table) slot place) ≤ length (now out) ⌝ }
+    ensures { λ r. ⌜ Appended (now (out .entry)) at (cornerAt (now (table .entry)) slot place) (now (out .exit)) r ⌝ }
+{
+    let y = put_coordinate(table, slot, place, out, at);
+    let z = put_coordinate(table, slot, place + 4, out, y);
+    put_coordinate(table, slot, place + 8, out, z)
+}
+
+// The line of a cell.
+fn put_cell(table: &[u8], slot: usize, out: &mut [u8], at: usize) -> usize
+    requires { ⌜ length (now table) ≡ 65536 ⌝ }
+    requires { ⌜ at + length (cellLine (markIn (now table) slot)) ≤ length (now out) ⌝ }
+    ensures { λ r. ⌜ Appended (now (out .entry)) at (cellLine (markIn (now (table .entry)) slot)) (now (out .exit)) r ⌝ }
+{
+    let lows = put_decimal(out, at, u32_of(table, slot, 4));
+    let highs = put_corner(table, slot, 8, out, lows);
+    let end = put_corner(table, slot, 20, out, highs);
+    put_byte(out, end, NEWLINE)
+}
+
+// The lines of so many cells of the chain from a slot on.
+fn put_cells(table: &[u8], first: usize, cells: usize, out: &mut [u8], from: usize) -> usize
+    requires { ⌜ length (now table) ≡ 65536 ⌝ }
+    requires { ⌜ from + length (cellLines (chain cells (now table) first)) ≤ length (now out) ⌝ }
+    ensures { λ r. ⌜ Appended (now (out .entry)) from (cellLines (chain cells (now (table .entry)) first)) (now (out .exit)) r ⌝ }
+{
+    let mut at = from;
+    let mut slot = first;
+    let mut left = cells;
+    while left > 0 {
+        at = put_cell(table, slot, out, at);
+        slot = u32_of(table, slot, 0);
+        left -= 1;
+    }
+    at
+}
+
+// The first line.
+fn put_head(out: &mut [u8], cells: usize, evaluated: usize, solid: usize, vacant: usize) -> usize
+    requires { ⌜ length (headLine cells evaluated solid vacant) ≤ length (now out) ⌝ }
+    ensures { λ r. ⌜ Appended (now (out .entry)) 0 (headLine cells evaluated solid vacant) (now (out .exit)) r ⌝ }
+{
+    let second = put_decimal(out, 0, cells);
+    let third = put_spaced(out, second, evaluated);
+    let fourth = put_spaced(out, third, solid);
+    let end = put_spaced(out, fourth, vacant);
+    put_byte(out, end, NEWLINE)
+}
+
+// What is printed of a table.
+pub fn put_listing(table: &[u8; 65536], out: &mut [u8; 131072]) -> usize
+    requires { ⌜ length (listing (now table)) ≤ 131072 ⌝ }
+    ensures text { λ r. ⌜ take r (now (out .exit)) ≡ listing (now (table .entry)) ⌝ }
+    ensures end { λ r. ⌜ r ≡ length (listing (now (table .entry))) ⌝ }
+{
+    let cells = u32_at(table, 4);
+    let head = put_head(
+        out,
+        cells,
+        u32_at(table, 8),
+        u64_at(table, 12),
+        u64_at(table, 20),
+    );
+    put_cells(table, u32_at(table, 0), cells, out, head)
+}
+
+// What is printed of a refusal.
+pub fn put_refused(out: &mut [u8; 131072], n: u32) -> usize
+    ensures text { λ r. ⌜ take r (now (out .exit)) ≡ refusedText n ⌝ }
+    ensures end { λ r. ⌜ r ≡ length (refusedText n) ⌝ }
+{
+    let word = put_text(out, 0, b"refused");
+    let end = put_spaced(out, word, n as usize);
+    put_byte(out, end, NEWLINE)
+}
