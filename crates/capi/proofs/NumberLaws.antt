@@ -18,7 +18,8 @@ use Rattle.grade.specs.declared.Piece.the-variants.{Start, Ramp, End}
 use Rattle.grade.specs.Grade.{at}
 use Rattle.gyroid.specs.declared.State.{State}
 use Rattle.gyroid.specs.declared.State.the-variants.{Inside, Outside, Unsettled}
-use Rattle.gyroid.specs.Calls.{pieceNumber, stateNumber}
+use Rattle.gyroid.specs.Residual.{stateNumber}
+use Rattle.calls.specs.Calls.{pieceNumber}
 use Rattle.capi.specs.Exports.{bit}
 use Rattle.capi.specs.Lent.{over}
 

@@ -14,8 +14,9 @@ use Rattle.grade.specs.Refusals.{refused, _orElse_}
 use Rattle.grade.specs.Calls.{rangeCall}
 use Rattle.grade.specs.Said.{Said, found, refusing, answered}
 use Rattle.gyroid.specs.declared.Jet.{Jet}
-use Rattle.gyroid.specs.declared.Derivatives.{Derivatives}
-use Rattle.gyroid.specs.Calls as calls
+use Rattle.calls.specs.declared.Derivatives.{Derivatives}
+use Rattle.calls.specs.Calls as calls
+use Rattle.walk.specs.Walk.{walkNumber, walkTable}
 use Rattle.capi.specs.Lent.{level, description, wholePoint, point, box, triangle, lengths, unless}
 
 -- ---- answers as rows of numbers
@@ -105,3 +106,10 @@ fast ds p room = unless (lengths (length ds) (length p) 3 room 1) (calls.fastCal
 
 unfoldable pub fastDistance : List ℤ → List Float → ℕ → Said Float
 fastDistance ds p room = unless (lengths (length ds) (length p) 3 room 1) (calls.fastDistanceCall (description ds) (point p))
+
+-- ---- the walk: what it returns, and what it leaves in the table t
+unfoldable pub walkStatus : List ℤ → List ℤ → ℤ → ℕ → ℕ
+walkStatus ds ns D len = lengths (length ds) (length ns) 6 0 0 orElse walkNumber (description ds) (wholePoint ns 0) (wholePoint ns 3) D len
+
+unfoldable pub walkLeft : List ℤ → List ℤ → ℤ → List ℕ → List ℕ
+walkLeft ds ns D t = cond (eqb (lengths (length ds) (length ns) 6 0 0) 0) (walkTable (description ds) (wholePoint ns 0) (wholePoint ns 3) D t) t

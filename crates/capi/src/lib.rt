@@ -27,24 +27,25 @@ use crate::writing::put_planes;
 use crate::writing::put_range;
 use crate::writing::put_state;
 use crate::writing::put_truth;
+use calls::calls::affine_jet;
+use calls::calls::affine_residual;
+use calls::calls::box_state;
+use calls::calls::curvature;
+use calls::calls::derivatives;
+use calls::calls::facet_residual;
+use calls::calls::fast;
+use calls::calls::fast_distance;
+use calls::calls::graded;
+use calls::calls::jet;
+use calls::calls::level_piece;
+use calls::calls::lipschitz;
+use calls::calls::planes;
+use calls::calls::residual;
+use calls::calls::saturated;
 use grade::range::grade_range;
 use grade::refusals::or_else;
 use grade::refusals::refused;
-use gyroid::calls::affine_jet;
-use gyroid::calls::affine_residual;
-use gyroid::calls::box_state;
-use gyroid::calls::curvature;
-use gyroid::calls::derivatives;
-use gyroid::calls::facet_residual;
-use gyroid::calls::fast;
-use gyroid::calls::fast_distance;
-use gyroid::calls::graded;
-use gyroid::calls::jet;
-use gyroid::calls::level_piece;
-use gyroid::calls::lipschitz;
-use gyroid::calls::planes;
-use gyroid::calls::residual;
-use gyroid::calls::saturated;
+use walk::calls::walk;
 
 // 1 or 0.
 #[no_mangle]
@@ -277,4 +278,28 @@ pub extern "C" fn gyroid_fast_distance(description: &[i64], point: &[f64], out: 
         return number;
     }
     put_double(fast_distance(describe(description), point_at(point)), out)
+}
+
+// Writes the cells of the box to `table`. Returns 0, document 01's number or 101; there is no `out`.
+#[no_mangle]
+pub extern "C" fn gyroid_walk(
+    description: &[i64],
+    bounds: &[i64],
+    depth: i64,
+    table: &mut [u8],
+) -> u32
+    ensures answer { λ r. ⌜ r ≡ exports.walkStatus (now (description .entry)) (now (bounds .entry)) depth (length (now (table .entry))) ⌝ }
+    ensures left { λ _. ⌜ now (table .exit) ≡ exports.walkLeft (now (description .entry)) (now (bounds .entry)) depth (now (table .entry)) ⌝ }
+{
+    let number = lengths(description.len(), bounds.len(), 6, 0, 0);
+    if number != 0 {
+        return number;
+    }
+    walk(
+        describe(description),
+        whole_point(bounds, 0),
+        whole_point(bounds, 3),
+        depth,
+        table,
+    )
 }

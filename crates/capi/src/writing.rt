@@ -5,22 +5,23 @@ ghost use Prim.Native.Nat.{suc, _+_, _≤_};
 ghost use lib.IntN.{pos};
 ghost use lib.ListN.{length};
 ghost use Rattle.grade.specs.Calls.{rangeSaid};
-ghost use Rattle.gyroid.specs.Calls.{enclosureSaid, stateSaid, levelPieceSaid, truthSaid, planesSaid, doubleSaid};
-ghost use Rattle.gyroid.specs.Fits.{AxisBelow};
+ghost use Rattle.gyroid.specs.Residual as residuals;
+ghost use Rattle.calls.specs.Calls.{enclosureSaid, stateSaid, levelPieceSaid, truthSaid, planesSaid, doubleSaid};
+ghost use Rattle.calls.specs.Fits.{AxisBelow};
 ghost use Rattle.capi.specs.Lent.{status, written, over};
 ghost use Rattle.capi.specs.Exports.{each, bit, row, threeOf, jetSaid, derivativesSaid};
 ghost use mathlib.Core.List.{[]};
+use calls::Derivatives;
+use calls::DoubleAnswer;
+use calls::EnclosureAnswer;
+use calls::LevelPieceAnswer;
+use calls::PlanesAnswer;
+use calls::StateAnswer;
+use calls::TruthAnswer;
 use grade::Piece;
 use grade::RangeAnswer;
-use gyroid::Derivatives;
-use gyroid::DoubleAnswer;
-use gyroid::EnclosureAnswer;
 use gyroid::Jet;
-use gyroid::LevelPieceAnswer;
-use gyroid::PlanesAnswer;
 use gyroid::State;
-use gyroid::StateAnswer;
-use gyroid::TruthAnswer;
 use interval::Interval;
 
 // Nothing is found.
@@ -58,7 +59,7 @@ pub fn put_double(answer: DoubleAnswer, out: &mut [f64]) -> u32
 
 // Inside, outside, unsettled, as in the walk's table.
 fn state_number(state: State) -> i64
-    ensures { λ r. ⌜ r ≡ pos (Rattle.gyroid.specs.Calls.stateNumber state) ⌝ }
+    ensures { λ r. ⌜ r ≡ pos (residuals.stateNumber state) ⌝ }
 {
     match state {
         State::Inside => 1,
@@ -82,7 +83,7 @@ pub fn put_state(answer: StateAnswer, out: &mut [i64]) -> u32
 }
 
 fn piece_number(piece: Piece) -> i64
-    ensures { λ r. ⌜ r ≡ pos (Rattle.gyroid.specs.Calls.pieceNumber piece) ⌝ }
+    ensures { λ r. ⌜ r ≡ pos (Rattle.calls.specs.Calls.pieceNumber piece) ⌝ }
 {
     match piece {
         Piece::Start => 0,

@@ -4,12 +4,14 @@
 ghost use Prim.Native.Nat.{_≤_};
 ghost use lib.ListN.{length};
 use crate::tally::Tally;
+use crate::words::bounds;
 use crate::words::count;
+use crate::words::entries;
 use crate::words::float_of;
 use crate::words::offset;
+use crate::words::read_words;
 use crate::words::same;
 use crate::words::small;
-use crate::words::word;
 
 struct Head {
     call: u8,
@@ -17,12 +19,6 @@ struct Head {
     answers: usize,
     status: u32,
     piece: u32,
-}
-
-// As many words as a record may have after its first: 18 of a triangle's corners, 24 of derivatives.
-struct Words {
-    complete: bool,
-    at: [u64; 42],
 }
 
 struct Run {
@@ -42,18 +38,11 @@ fn of_description(call: u8, d: &[i64], whole: &mut [i64], real: &mut [f64]) -> u
 }
 
 fn of_bounds(call: u8, d: &[i64], w: [u64; 42], whole: &mut [i64]) -> u32 {
-    let bounds = [
-        offset(w[0]),
-        offset(w[1]),
-        offset(w[2]),
-        offset(w[3]),
-        offset(w[4]),
-        offset(w[5]),
-    ];
+    let b = bounds(w, 0);
     if call == 6 {
-        return capi::gyroid_grade_range(d, &bounds, whole);
+        return capi::gyroid_grade_range(d, &b, whole);
     }
-    capi::gyroid_level_piece(d, &bounds, whole)
+    capi::gyroid_level_piece(d, &b, whole)
 }
 
 fn of_world(h: Head, d: &[i64], w: [u64; 42], whole: &mut [i64], real: &mut [f64]) -> u32 {
@@ -172,45 +161,6 @@ fn matches(h: Head, d: &[i64], w: [u64; 42]) -> bool {
 }
 
 // ---- the list
-// The next n words of the list.
-fn read_words(fd: i32, n: usize) -> Words {
-    let mut w = [0u64; 42];
-    let mut complete = n <= 42;
-    let mut i: usize = 0;
-    while i < 42 && i < n {
-        let mut s = [0u8; 8];
-        if io::read_full(fd, &mut s) < 8 {
-            complete = false;
-        }
-        w[i] = word(&s, 0);
-        i += 1;
-    }
-    Words { complete, at: w }
-}
-
-fn entries(w: [u64; 42]) -> [i64; 18] {
-    [
-        offset(w[0]),
-        offset(w[1]),
-        offset(w[2]),
-        offset(w[3]),
-        offset(w[4]),
-        offset(w[5]),
-        offset(w[6]),
-        offset(w[7]),
-        offset(w[8]),
-        offset(w[9]),
-        offset(w[10]),
-        offset(w[11]),
-        offset(w[12]),
-        offset(w[13]),
-        offset(w[14]),
-        offset(w[15]),
-        offset(w[16]),
-        offset(w[17]),
-    ]
-}
-
 // A list that breaks off counts as one answer that differs.
 fn broken(r: Run) -> Run {
     let d = r.description;
@@ -232,7 +182,7 @@ fn body(fd: i32, h: Head, r: Run) -> Run {
         return broken(r);
     }
     let words = read_words(fd, given + answers);
-    if !words.complete {
+    if words.bytes < 8 * (given + answers) {
         return broken(r);
     }
     let w = words.at;

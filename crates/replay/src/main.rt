@@ -3,6 +3,7 @@ mod words; // what eight bytes stand for
 mod tally; // what was seen
 mod intervals; // the interval layer's list
 mod calls; // the public calls' list
+mod walks; // the list of walks
 
 // The list of the interval layer.
 fn replay_intervals() {
@@ -30,7 +31,21 @@ fn replay_calls() {
     t.print(path);
 }
 
+// The list of walks.
+fn replay_walks() {
+    let path = b"walks";
+    let fd = os::open_read(path);
+    if fd < 0 {
+        os::fail(path);
+        return;
+    }
+    let t = walks::all(fd);
+    libc::close(fd);
+    t.print(path);
+}
+
 fn main() {
     replay_intervals();
     replay_calls();
+    replay_walks();
 }

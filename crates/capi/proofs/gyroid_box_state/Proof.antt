@@ -2,7 +2,7 @@
 use mathlib.Core.Path.{_∙_, ap}
 use borrow.Author.Needs.{needs}
 use lib.IntN.{pos}
-use Rattle.gyroid.specs.Calls.{boxStateCall}
+use Rattle.calls.specs.Calls.{boxStateCall}
 use Rattle.capi.specs.Exports.{boxState, each}
 use Rattle.capi.proofs.AnswerLaws.{stopped, passed}
 use Rattle.capi.proofs.LengthLaws.{sized, holds}

@@ -2,7 +2,7 @@
 use mathlib.Core.Path.{_∙_, ap, sym}
 use borrow.Author.Needs.{needs}
 use Rattle.grade.proofs.RefusalLaws.{neither}
-use Rattle.gyroid.specs.Calls.{derivativesCall}
+use Rattle.calls.specs.Calls.{derivativesCall}
 use Rattle.capi.specs.Exports.{derivatives, derivativesSaid}
 use Rattle.capi.proofs.AnswerLaws.{stopped, passed}
 use Rattle.capi.proofs.LengthLaws.{sized, holds, either}

@@ -1,7 +1,7 @@
 -- By what the lengths refuse, then by the call and what is left. Assumes nothing.
 use mathlib.Core.Path.{_∙_}
 use borrow.Author.Needs.{needs}
-use Rattle.gyroid.specs.Calls.{fastCall}
+use Rattle.calls.specs.Calls.{fastCall}
 use Rattle.capi.specs.Exports.{fast}
 use Rattle.capi.proofs.AnswerLaws.{stopped, passed}
 use Rattle.capi.proofs.LengthLaws.{sized}

@@ -4,7 +4,7 @@ use native.Mathlib.Nat.{le-trans}
 use borrow.Author.Needs.{needs}
 use lib.Dec.{lit≤}
 use lib.IntN.{pos}
-use Rattle.gyroid.specs.Calls.{levelPieceCall}
+use Rattle.calls.specs.Calls.{levelPieceCall}
 use Rattle.capi.specs.Exports.{levelPiece, each}
 use Rattle.capi.proofs.AnswerLaws.{stopped, passed}
 use Rattle.capi.proofs.LengthLaws.{sized, holds}

@@ -1,8 +1,8 @@
 -- By what the lengths refuse, then by the call and what is left. Assumes nothing.
 use mathlib.Core.Path.{_∙_}
 use borrow.Author.Needs.{needs}
-use Rattle.gyroid.proofs.PlanesLaws.{planes-axis}
-use Rattle.gyroid.specs.Calls.{planesCall}
+use Rattle.calls.proofs.PlanesLaws.{planes-axis}
+use Rattle.calls.specs.Calls.{planesCall}
 use Rattle.capi.specs.Exports.{planes}
 use Rattle.capi.proofs.AnswerLaws.{stopped, passed}
 use Rattle.capi.proofs.LengthLaws.{sized}

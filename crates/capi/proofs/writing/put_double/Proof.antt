@@ -1,7 +1,7 @@
 -- By the case. Assumes nothing.
 use mathlib.Core.Path.{refl, ap}
 use borrow.Author.Needs.{needs}
-use Rattle.gyroid.specs.Calls.{doubleSaid}
+use Rattle.calls.specs.Calls.{doubleSaid}
 use Rattle.capi.proofs.AnswerLaws.{values}
 use Rattle.capi.proofs.writing.put_double.Statement.{statement}
 use Rattle.capi.proofs.writing.put_double.Tie as tie

@@ -1,7 +1,7 @@
 -- By the case. Assumes nothing.
 use mathlib.Core.Path.{refl, ap}
 use borrow.Author.Needs.{needs}
-use Rattle.gyroid.specs.Calls.{enclosureSaid}
+use Rattle.calls.specs.Calls.{enclosureSaid}
 use Rattle.capi.proofs.AnswerLaws.{values, nothing}
 use Rattle.capi.proofs.writing.put_enclosure.Statement.{statement}
 use Rattle.capi.proofs.writing.put_enclosure.Tie as tie

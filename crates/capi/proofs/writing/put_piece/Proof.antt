@@ -2,7 +2,7 @@
 use mathlib.Core.Path.{ap}
 use borrow.Author.Needs.{needs}
 use lib.IntN.{pos}
-use Rattle.gyroid.specs.Calls.{levelPieceSaid}
+use Rattle.calls.specs.Calls.{levelPieceSaid}
 use Rattle.capi.specs.Exports.{each}
 use Rattle.capi.proofs.AnswerLaws.{values, nothing}
 use Rattle.capi.proofs.NumberLaws.{set-small, piece-fits}

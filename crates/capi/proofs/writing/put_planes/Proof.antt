@@ -4,8 +4,8 @@ use native.Mathlib.Omega.{arith}
 use borrow.Author.Needs.{needs}
 use lib.IntN.{pos}
 use lib.ListN.{length-set}
-use Rattle.gyroid.specs.Calls.{planesSaid}
-use Rattle.gyroid.specs.Fits.{AxisBelow}
+use Rattle.calls.specs.Calls.{planesSaid}
+use Rattle.calls.specs.Fits.{AxisBelow}
 use Rattle.capi.proofs.AnswerLaws.{values, nothing}
 use Rattle.capi.proofs.NumberLaws.{set-three, axis-fits}
 use Rattle.capi.proofs.writing.put_planes.Statement.{statement}

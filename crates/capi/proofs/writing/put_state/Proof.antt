@@ -2,7 +2,7 @@
 use mathlib.Core.Path.{ap}
 use borrow.Author.Needs.{needs}
 use lib.IntN.{pos}
-use Rattle.gyroid.specs.Calls.{stateSaid}
+use Rattle.calls.specs.Calls.{stateSaid}
 use Rattle.capi.specs.Exports.{each}
 use Rattle.capi.proofs.AnswerLaws.{values}
 use Rattle.capi.proofs.NumberLaws.{set-small, state-fits}

@@ -1,7 +1,7 @@
 -- By the case. Assumes nothing.
 use mathlib.Core.Path.{ap}
 use borrow.Author.Needs.{needs}
-use Rattle.gyroid.specs.Calls.{truthSaid}
+use Rattle.calls.specs.Calls.{truthSaid}
 use Rattle.capi.specs.Exports.{each, bit}
 use Rattle.capi.proofs.AnswerLaws.{values, nothing}
 use Rattle.capi.proofs.NumberLaws.{set-small, bit-fits}
