@@ -1,4 +1,4 @@
-/* Asks the mark of one box and the residual behind it. From the project's root:
+/* Asks the mark of one box and the residual behind it, and walks a box that is not settled. From the project's root:
  *
  *   rt staticlib capi
  *   cc -I bindings bindings/example.c target/staticlib/libcapi.a -o example && ./example
@@ -7,6 +7,16 @@
 
 #include <inttypes.h>
 #include <stdio.h>
+
+/* The 32 bits at a place of a table. */
+static uint32_t number(const uint8_t *at) {
+    return (uint32_t)at[0] | (uint32_t)at[1] << 8 | (uint32_t)at[2] << 16 | (uint32_t)at[3] << 24;
+}
+
+static int refused(uint32_t status) {
+    printf("refused %" PRIu32 "\n", status);
+    return 1;
+}
 
 int main(void) {
     /* A network of period 10 mm at the constant level 2, in the part frame. */
@@ -18,14 +28,27 @@ int main(void) {
 
     uint32_t status = gyroid_box_state(description, GYROID_DESCRIPTION, world, 6, &state, 1);
     if (status != GYROID_FOUND) {
-        printf("refused %" PRIu32 "\n", status);
-        return 1;
+        return refused(status);
     }
     status = gyroid_residual(description, GYROID_DESCRIPTION, world, 6, ends, 2);
     if (status == GYROID_NONE) {
         printf("state %" PRId64 ", no residual\n", state);
     } else {
         printf("state %" PRId64 ", residual from %.17g to %.17g\n", state, ends[0], ends[1]);
+    }
+
+    /* The whole millimetre cube in ticks, halved once at most. */
+    const int64_t bounds[6] = {0, 0, 0, 1024, 1024, 1024};
+    uint8_t table[64 * GYROID_SLOT];
+    status = gyroid_walk(description, GYROID_DESCRIPTION, bounds, 6, 1, table, sizeof table);
+    if (status != GYROID_FOUND) {
+        return refused(status);
+    }
+    printf("%" PRIu32 " cells\n", number(table + 4));
+    for (uint32_t slot = number(table); slot != 0; slot = number(table + slot * GYROID_SLOT)) {
+        const uint8_t *cell = table + slot * GYROID_SLOT;
+        printf("state %" PRIu32 ", x from %" PRId32 " to %" PRId32 "\n", number(cell + 4), (int32_t)number(cell + 8),
+               (int32_t)number(cell + 20));
     }
     return 0;
 }

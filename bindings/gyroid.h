@@ -1,4 +1,4 @@
-/* The sixteen calls of the static library libcapi.a, which `rt staticlib capi` makes in target/staticlib.
+/* The seventeen calls of the static library libcapi.a, which `rt staticlib capi` makes in target/staticlib.
  *
  * Every slice is a pointer and a number of entries. The caller lends the slices for the time of the call; none is kept, nothing is
  * allocated and there is no state, so calls from several threads do not meet.
@@ -11,7 +11,7 @@
  *   GYROID_LENGTH  a lent slice has the wrong length: an argument that is not of its length, or an `out` shorter than the call's
  *                  values. Tested before all else.
  *
- * On any status but GYROID_FOUND nothing is written; on GYROID_FOUND nothing past the call's values.
+ * On any status but GYROID_FOUND nothing is written; on GYROID_FOUND nothing past the call's values. gyroid_walk writes more: see there.
  *
  * A description is 18 whole numbers, in ticks of 1/1024 mm and level counts of 1/1024:
  *
@@ -37,6 +37,7 @@ enum { GYROID_FOUND = 0, GYROID_NONE = 100, GYROID_LENGTH = 101 };
 enum { GYROID_DESCRIPTION = 18 };
 enum { GYROID_START = 0, GYROID_RAMP = 1, GYROID_END = 2 };
 enum { GYROID_INSIDE = 1, GYROID_OUTSIDE = 2, GYROID_UNSETTLED = 3 };
+enum { GYROID_SLOT = 32 };
 
 /* The exact range of the level over `bounds` (6 entries). `out` (3): the numerators of the least and of the greatest level and their
  * denominator, in level counts and not reduced. It reads the level's entries alone, so it refuses by 1, 6, 7 and 8 only. Never
@@ -103,6 +104,20 @@ uint32_t gyroid_fast_distance(const int64_t *description, size_t description_len
 /* The level at a `point` (3 entries, millimetres), in doubles: tentative, no enclosure. `out` (1). Never none. */
 uint32_t gyroid_fast(const int64_t *description, size_t description_length, const double *point, size_t point_length,
                      double *out, size_t out_length);
+
+/* Marks `bounds` (6 entries) cell by cell: a box that is unsettled is halved across its longest side, `depth` (0 to 24) times at most
+ * and down to one tick. The cells stand in `table`, which is any number of bytes: slots of 32, little endian.
+ *
+ *   slot 0   0 the first cell's slot (u32), 4 cells (u32), 8 boxes evaluated (u32), 12 the tick cubes of the cells inside (u64),
+ *            20 those of the rest of the box (u64), 28 zeros
+ *   a cell   0 the next cell's slot, 0 for the last (u32), 4 its state (u32: 1 inside, 2 outside, 3 unsettled), 8 its three lows (i32),
+ *            20 its three highs (i32)
+ *
+ * Read the cells along the chain. Those bytes of the table that hold no cell are zero. Besides the description's refusals there are 11,
+ * a span below 1, 12, a depth below 0 or above 24, and 13, fewer slots than the cells and one more; 13 leaves every byte of the table
+ * zero, any other status but GYROID_FOUND leaves the table as it was. GYROID_LENGTH speaks of `bounds` alone. Never none. */
+uint32_t gyroid_walk(const int64_t *description, size_t description_length, const int64_t *bounds, size_t bounds_length,
+                     int64_t depth, uint8_t *table, size_t table_length);
 
 #ifdef __cplusplus
 }

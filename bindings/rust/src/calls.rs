@@ -2,7 +2,7 @@
 
 use crate::lend::{self, always, on_description, on_slice};
 use crate::raw;
-use crate::{Bounds, Derivatives, Description, Interval, Jet, Piece, Planes, Range, Refusal, State};
+use crate::{Bounds, Derivatives, Description, Interval, Jet, Piece, Planes, Range, Refusal, State, Table};
 
 /// A box, or a point in intervals: x, y, z.
 type World = [Interval; 3];
@@ -91,12 +91,7 @@ pub fn affine_residual(description: &Description, world: World) -> Result<Option
 /// The mark of a box.
 pub fn box_state(description: &Description, world: World) -> Result<State, Refusal> {
     let [state] = always(on_slice(raw::gyroid_box_state, description, &ends(world)))?;
-    Ok(match state {
-        1 => State::Inside,
-        2 => State::Outside,
-        3 => State::Unsettled,
-        other => panic!("state {other}, which the library never answers"),
-    })
+    Ok(State::of(state).unwrap_or_else(|| panic!("state {state}, which the library never answers")))
 }
 
 /// g less the level's affine extension over a triangle. It promises no enclosure: its widening is rounded to nearest.
@@ -146,4 +141,34 @@ pub fn fast_distance(description: &Description, point: [f64; 3]) -> Result<f64, 
 pub fn fast(description: &Description, point: [f64; 3]) -> Result<f64, Refusal> {
     let [value] = always(on_slice(raw::gyroid_fast, description, &point))?;
     Ok(value)
+}
+
+/// Marks a box of whole ticks cell by cell, halving what is unsettled `depth` times at most (0 to 24), and leaves the cells in the
+/// lent table: [`Table`] reads it. One cell takes 32 bytes and so does the head.
+///
+/// Every byte of the table is written. Refused by 13, for want of room, every byte is zero; refused by another number the table is
+/// as it was.
+///
+/// ```
+/// use gyroid_cells::{Bounds, Description, State, walk};
+///
+/// // A network of period 10 mm at the level 2; a millimetre cube, halved once at most.
+/// let core = Description::constant(10240, 2048);
+/// let cube = Bounds { low: [0; 3], high: [1024; 3] };
+/// let mut bytes = [0; 3 * 32];
+/// let table = walk(&core, cube, 1, &mut bytes)?;
+///
+/// assert_eq!(table.head().solid, 536870912);
+/// let states: Vec<State> = table.cells().map(|cell| cell.state).collect();
+/// assert_eq!(states, [State::Inside, State::Unsettled]);
+/// # Ok::<(), gyroid_cells::Refusal>(())
+/// ```
+pub fn walk<'a>(
+    description: &Description,
+    bounds: Bounds,
+    depth: i64,
+    table: &'a mut [u8],
+) -> Result<Table<'a>, Refusal> {
+    lend::walk(description, &corners_of(bounds), depth, table)?;
+    Ok(Table::filled(table))
 }

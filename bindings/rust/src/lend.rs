@@ -6,13 +6,18 @@ use crate::{Description, Refusal};
 /// The values of a call, or none.
 pub(crate) type Answer<T, const N: usize> = Result<Option<[T; N]>, Refusal>;
 
-fn read<T, const N: usize>(status: u32, out: [T; N]) -> Answer<T, N> {
+/// Whether a call found its values.
+fn found(status: u32) -> Result<bool, Refusal> {
     match status {
-        FOUND => Ok(Some(out)),
-        NONE => Ok(None),
+        FOUND => Ok(true),
+        NONE => Ok(false),
         1..=14 => Err(Refusal(status)),
         _ => panic!("status {status}, which no call answers to slices of the right lengths"),
     }
+}
+
+fn read<T, const N: usize>(status: u32, out: [T; N]) -> Answer<T, N> {
+    Ok(found(status)?.then_some(out))
 }
 
 /// What a call that never finds nothing answers.
@@ -51,4 +56,15 @@ pub(crate) fn derivatives(description: &Description, world: &[f64; 6], piece: u3
         raw::gyroid_derivatives(d.as_ptr(), d.len(), world.as_ptr(), world.len(), piece, out.as_mut_ptr(), out.len())
     };
     read(status, out)
+}
+
+pub(crate) fn walk(description: &Description, bounds: &[i64; 6], depth: i64, table: &mut [u8]) -> Result<(), Refusal> {
+    let d = description.entries();
+    let length = table.len();
+    // As above; the table is the caller's, and lent to this call alone.
+    let status = unsafe {
+        raw::gyroid_walk(d.as_ptr(), d.len(), bounds.as_ptr(), bounds.len(), depth, table.as_mut_ptr(), length)
+    };
+    assert!(found(status)?, "a walk always finds its cells");
+    Ok(())
 }

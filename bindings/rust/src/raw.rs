@@ -2,8 +2,8 @@
 //!
 //! # Safety
 //!
-//! Every pointer must be valid for the number of entries that follows it, for reading, and `out` for writing; `out` must not
-//! overlap another slice.
+//! Every pointer must be valid for the number of entries that follows it, for reading, and `out`, which is a walk's table, for
+//! writing; `out` must not overlap another slice.
 
 /// A call on a description alone.
 pub type OnDescription<T> = unsafe extern "C" fn(*const i64, usize, *mut T, usize) -> u32;
@@ -51,4 +51,5 @@ calls! {
     gyroid_planes() -> i64;
     gyroid_fast_distance(point: *const f64, point_length: usize) -> f64;
     gyroid_fast(point: *const f64, point_length: usize) -> f64;
+    gyroid_walk(bounds: *const i64, bounds_length: usize, depth: i64) -> u8;
 }

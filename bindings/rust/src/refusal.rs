@@ -25,6 +25,9 @@ impl Refusal {
             8 => "a linear level with from = to has no range",
             9 => "a double is a NaN, or a low is above its high",
             10 => "an end or a point is beyond 2^40 in size",
+            11 => "a span of the box is below 1",
+            12 => "the depth is below 0 or above 24",
+            13 => "the table has too few slots for the cells",
             _ => "refused",
         }
     }

@@ -52,6 +52,13 @@ pub enum State {
     Unsettled = 3,
 }
 
+impl State {
+    /// The mark by its number.
+    pub(crate) fn of(number: i64) -> Option<Self> {
+        [State::Inside, State::Outside, State::Unsettled].into_iter().find(|state| *state as i64 == number)
+    }
+}
+
 /// A value and its gradient.
 #[derive(Clone, Copy, Debug, PartialEq)]
 pub struct Jet {

@@ -94,7 +94,15 @@ fn floats(request: &Request) -> Option<u32> {
     doubles.iter().any(|v| v.abs() > FAR).then_some(10)
 }
 
-/// The number by which document 01 refuses a request.
+/// A walk's rows but 13, which wants the cells counted.
+fn walk(request: &Request) -> Option<u32> {
+    if (0..3).any(|i| request.whole[3 + i] - request.whole[i] < 1) {
+        return Some(11);
+    }
+    (!(0..=24).contains(&request.depth)).then_some(12)
+}
+
+/// The number by which document 01 refuses a request; none where that is 13.
 pub fn refusal(request: &Request) -> Option<u32> {
     if limited(request) {
         return Some(1);
@@ -102,14 +110,17 @@ pub fn refusal(request: &Request) -> Option<u32> {
     if request.call == Call::GradeRange {
         return range(request);
     }
-    let order = request.call == Call::LevelPiece && low_above_high(&request.whole);
-    description(&request.description).or(order.then_some(6)).or_else(|| floats(request))
+    description(&request.description).or_else(|| match request.call {
+        Call::LevelPiece => low_above_high(&request.whole).then_some(6),
+        Call::Walk => walk(request),
+        _ => floats(request),
+    })
 }
 
-/// The same where the original has no such refusal: 1, 9, 10, and 6 for `level_piece`.
+/// The same where the original has no such refusal: 1, 9, 10, and 6 for `level_piece`. The walk beside it has them all.
 pub fn added(request: &Request) -> Option<u32> {
     refusal(request).filter(|number| match number {
-        1 | 9 | 10 => true,
+        1 | 9 | 10 => request.call != Call::Walk,
         6 => request.call == Call::LevelPiece,
         _ => false,
     })
@@ -190,6 +201,26 @@ mod tests {
         assert_eq!(ask(Call::GradeRange, ramp(0, 0, 1), reversed), (Some(6), None));
         let minimum = [i64::MIN, 0, 0, 0, 0, 0];
         assert_eq!(ask(Call::GradeRange, PLAIN, minimum), (Some(1), Some(1)));
+    }
+
+    #[test]
+    fn walks() {
+        let ask = |d, whole, depth| {
+            let request = Request { whole, depth, ..Request::new(Call::Walk, d) };
+            assert_eq!(added(&request), None);
+            refusal(&request)
+        };
+        let (cube, flat) = ([-1, -1, -1, 0, 0, 0], [0, 0, 0, 1, 1, 0]);
+        assert_eq!(ask(PLAIN, cube, 0), None);
+        assert_eq!(ask(PLAIN, cube, 24), None);
+        assert_eq!(ask(PLAIN, [-TICKS, -TICKS, -TICKS, TICKS, TICKS, TICKS], 1), None);
+        assert_eq!(ask(PLAIN, cube, 25), Some(12));
+        assert_eq!(ask(PLAIN, cube, i64::MIN), Some(12));
+        assert_eq!(ask(PLAIN, flat, -1), Some(11));
+        assert_eq!(ask(PLAIN, [0, 1, 0, 1, 0, 1], 0), Some(11));
+        assert_eq!(ask(with(&[(W, 0)], PLAIN), flat, -1), Some(3));
+        assert_eq!(ask(with(&[(PERIOD, 0)], PLAIN), [0, 0, 0, 0, 0, TICKS + 1], 0), Some(1));
+        assert_eq!(ask(PLAIN, [i64::MIN, 0, 0, i64::MAX, 1, 1], 0), Some(1));
     }
 
     #[test]

@@ -2,7 +2,7 @@
 
 use crate::chance::Chance;
 use crate::entries::*;
-use crate::{boxes, descriptions, specials};
+use crate::{boxes, descriptions, specials, walks};
 use request::{Call, Description, Request, Shape};
 
 /// A box; for the jets half of them small, since a wide one has none.
@@ -29,6 +29,7 @@ pub fn about(c: &mut Chance, call: Call, d: Description) -> Request {
         }
         Shape::Corners => request.doubles = boxes::corners(c, &d),
         Shape::Point => request.doubles[..3].copy_from_slice(&boxes::point(c, &d)),
+        Shape::Walk => walks::set(c, &mut request),
     }
     request
 }
@@ -68,6 +69,9 @@ fn quiet(call: Call, d: Description) -> Request {
     }
     for i in 0..call.shape().doubles() {
         request.doubles[i] = (1 + i % 2) as f64 / 1024.0;
+    }
+    if call.shape() == Shape::Walk {
+        (request.depth, request.table) = (2, 4096);
     }
     request
 }
@@ -146,12 +150,41 @@ fn pieces(call: Call, out: &mut Vec<Request>) {
     }
 }
 
+/// Walks of a box with room to halve: depths and tables at their limits, and every pair of the refusal table's rows broken of which
+/// one at least is the walk's own.
+fn walks_of(call: Call, out: &mut Vec<Request>) {
+    let c = &mut Chance::new(0, call as u64, 0);
+    for base in bases() {
+        let mut quiet = quiet(call, base);
+        quiet.whole[3..].copy_from_slice(&[9, 8, 9]);
+        walks::systematic(&quiet, out);
+        for own in walks::ROWS {
+            let mut request = quiet;
+            own(&mut request);
+            let rows = descriptions::ROWS.map(|row| {
+                let mut both = request;
+                row(c, &mut both.description);
+                both
+            });
+            let pairs = walks::ROWS.map(|other| {
+                let mut both = request;
+                other(&mut both);
+                both
+            });
+            out.extend(rows.into_iter().chain(pairs));
+        }
+    }
+}
+
 /// The systematic part of a call: the same for every seed.
 pub fn systematic(call: Call) -> Vec<Request> {
     let mut out = Vec::new();
     entries(call, &mut out);
-    if call.shape() == Shape::Whole {
+    if call.shape().whole() > 0 {
         whole_pairs(call, &mut out);
+    }
+    if call.shape() == Shape::Walk {
+        walks_of(call, &mut out);
     }
     if call.shape() == Shape::WorldPiece {
         pieces(call, &mut out);

@@ -1,5 +1,5 @@
-//! The proved library beside the original Rust. Each module has one part of the comparison; the programs `ask`, `differ` and `list`
-//! put them together.
+//! The proved library beside the original Rust. Each module has one part of the comparison; the programs `ask`, `differ`, `list`
+//! and `bench` put them together.
 
 pub mod added;
 pub mod boxes;
@@ -7,10 +7,17 @@ pub mod cases;
 pub mod chance;
 pub mod descriptions;
 pub mod entries;
+pub mod lent_table;
 pub mod list;
+pub mod original;
 pub mod ours;
+pub mod race;
 pub mod report;
 pub mod shrink;
 pub mod slices;
 pub mod specials;
+pub mod stack;
 pub mod tally;
+pub mod walk;
+pub mod walk_list;
+pub mod walks;

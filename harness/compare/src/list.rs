@@ -33,7 +33,7 @@ const CALLS: [Call; 16] = [
 ];
 
 /// A whole number's word, or nothing where it has none.
-fn whole(n: i128) -> Option<u64> {
+pub fn whole(n: i128) -> Option<u64> {
     let word = n.checked_add(1 << 62)?;
     u64::try_from(word).ok().filter(|word| *word < 1 << 63)
 }
@@ -86,7 +86,7 @@ fn answered(request: &Request, answer: &Answer) -> Option<(u8, Vec<u64>)> {
         Answer::Found(found) => Some((0, values(request, found)?)),
         Answer::None => Some((100, Vec::new())),
         Answer::Refused(n) => Some((u8::try_from(*n).ok()?, Vec::new())),
-        Answer::Panicked | Answer::Unmade | Answer::Unavailable => None,
+        Answer::Walked(_) | Answer::Panicked | Answer::Unmade | Answer::Unavailable => None,
     }
 }
 

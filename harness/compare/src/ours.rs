@@ -1,7 +1,7 @@
 //! Our answer to a request, by the bindings that a service links.
 
 use gyroid_cells::{Bounds, Description, Interval, Jet, Piece, Refusal};
-use request::{Answer, Call, Request, Value};
+use request::{Answer, Call, Request, Value, Walked, unwritten};
 
 /// The row of three intervals that starts at a double.
 fn world(doubles: &[f64], first: usize) -> [Interval; 3] {
@@ -46,6 +46,12 @@ fn planes(d: &Description) -> Result<Option<Answer>, Refusal> {
         .map(|planes| Answer::Found(vec![Value::Number(planes.axis as i64), whole(planes.from), whole(planes.to)])))
 }
 
+fn walk(request: &Request, d: &Description, bounds: Bounds) -> Answer {
+    let mut table = unwritten(request.table);
+    let refusal = gyroid_cells::walk(d, bounds, request.depth, &mut table).err();
+    Answer::Walked(Walked { status: refusal.map_or(0, Refusal::number), table })
+}
+
 fn asked(request: &Request) -> Result<Option<Answer>, Refusal> {
     let d = &Description::from_entries(request.description);
     let [lx, ly, lz, hx, hy, hz] = request.whole;
@@ -69,6 +75,7 @@ fn asked(request: &Request) -> Result<Option<Answer>, Refusal> {
         Call::Planes => planes(d)?,
         Call::FastDistance => Some(Answer::doubles([gyroid_cells::fast_distance(d, point)?])),
         Call::Fast => Some(Answer::doubles([gyroid_cells::fast(d, point)?])),
+        Call::Walk => Some(walk(request, d, bounds)),
     })
 }
 

@@ -1,7 +1,7 @@
 //! The text of a comparison.
 
 use crate::tally::{Otherwise, Tally, judge};
-use request::{Call, Request};
+use request::{Answer, Call, Request};
 
 pub fn head() -> String {
     format!(
@@ -21,7 +21,16 @@ pub fn row(call: Call, tally: &Tally) -> String {
 fn shown(request: &Request) -> String {
     let judged = judge(request);
     let (ours, original) = (&judged.ours, &judged.original);
-    format!("    {request}\n    here: {ours}\n    original: {original}")
+    let bytes = tables(ours, original).map_or(String::new(), |text| format!("\n    {text}"));
+    format!("    {request}\n    here: {ours}\n    original: {original}{bytes}")
+}
+
+/// Where two tables first differ, which their cells need not show.
+fn tables(ours: &Answer, original: &Answer) -> Option<String> {
+    let (Answer::Walked(ours), Answer::Walked(original)) = (ours, original) else { return None };
+    let at = ours.table.iter().zip(&original.table).position(|(a, b)| a != b)?;
+    let (a, b) = (ours.table[at], original.table[at]);
+    Some(format!("byte {at} of the table is {a} here, and {b} by the original's states"))
 }
 
 /// What the original does where document 01 adds a refusal, each with the smallest request found.

@@ -1,6 +1,7 @@
 //! The smallest request that still shows a thing: fewest entries that are not zero, then the smallest ones.
 
 use crate::entries::{FROM, TO};
+use crate::walk;
 use request::Request;
 
 /// What makes one request smaller than another.
@@ -28,11 +29,8 @@ pub fn size(request: &Request) -> Size {
     let whole = request.description.iter().chain(request.whole());
     let whole = whole.map(|n| (*n != 0, whole_size(*n)));
     let doubles = request.doubles().iter().map(|v| (*v != 0.0, double_size(*v)));
-    let piece = (request.piece != 0, request.piece.into());
-    whole
-        .chain(doubles)
-        .chain([piece])
-        .fold((0, 0), |(count, sum), (some, size)| (count + usize::from(some), sum + size))
+    let last = [request.piece.into(), request.depth, request.table as i64].map(|n| (n != 0, whole_size(n)));
+    whole.chain(doubles).chain(last).fold((0, 0), |(count, sum), (some, size)| (count + usize::from(some), sum + size))
 }
 
 /// Numbers nearer to zero, the nearest first.
@@ -61,7 +59,9 @@ fn simpler(v: f64) -> Vec<f64> {
 const WHOLE: usize = 18;
 const DOUBLES: usize = WHOLE + 6;
 const PIECE: usize = DOUBLES + 18;
-const ANCHORS: usize = PIECE + 1;
+const DEPTH: usize = PIECE + 1;
+const TABLE: usize = DEPTH + 1;
+const ANCHORS: usize = TABLE + 1;
 const BOUNDS: usize = ANCHORS + 3;
 const INTERVALS: usize = BOUNDS + 3;
 const PLACES: usize = INTERVALS + 9;
@@ -90,6 +90,11 @@ fn variants(r: &Request, place: usize) -> Vec<Request> {
             .map(|v| with(r, |r| r.doubles[place - DOUBLES] = v))
             .collect(),
         PIECE => (0..r.piece.min(4)).map(|n| with(r, |r| r.piece = n)).collect(),
+        DEPTH => smaller(r.depth).into_iter().map(|n| with(r, |r| r.depth = n)).collect(),
+        TABLE => {
+            let lengths = smaller(r.table as i64).into_iter().filter_map(|n| usize::try_from(n).ok());
+            lengths.map(|n| with(r, |r| r.table = n)).collect()
+        }
         ANCHORS..BOUNDS => {
             let i = place - ANCHORS;
             let anchors = |r: &mut Request| {
@@ -113,14 +118,20 @@ fn variants(r: &Request, place: usize) -> Vec<Request> {
     }
 }
 
+/// A smaller box may be a larger walk, which is not asked for.
+fn affordable(request: &Request) -> bool {
+    walk::most_cells(request) <= 1 << 12
+}
+
 /// The smallest request found from this one on which `still` holds.
 pub fn shrink(request: Request, still: impl Fn(&Request) -> bool) -> Request {
     let mut best = request;
     loop {
         let before = size(&best);
         for place in 0..PLACES {
+            let mut candidates = variants(&best, place).into_iter();
             let smaller =
-                variants(&best, place).into_iter().find(|candidate| size(candidate) < size(&best) && still(candidate));
+                candidates.find(|smaller| size(smaller) < size(&best) && affordable(smaller) && still(smaller));
             best = smaller.unwrap_or(best);
         }
         if size(&best) == before {

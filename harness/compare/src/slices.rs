@@ -1,6 +1,7 @@
-//! What the static library promises of lent slices: lengths are tested before all else, and nothing is written but found values.
+//! What the static library promises of lent slices: lengths are tested before all else, and nothing is written but found values. A
+//! walk's table has a file of its own.
 
-use crate::cases;
+use crate::{cases, lent_table};
 use gyroid_cells::raw::{self, FOUND, LENGTH, NONE, OnDescription, OnSlice};
 use request::{Answer, Call, Request, Shape};
 
@@ -59,6 +60,7 @@ pub fn lend(request: &Request, length: usize, lent: usize, out: &mut [u64]) -> u
         Call::Planes => alone_i(raw::gyroid_planes),
         Call::FastDistance => on_doubles(raw::gyroid_fast_distance),
         Call::Fast => on_doubles(raw::gyroid_fast),
+        Call::Walk => unreachable!("a walk is lent a table"),
     }
 }
 
@@ -118,6 +120,9 @@ fn lengths(request: &Request) -> Vec<([usize; 3], u32)> {
 
 /// Lends slices of right and wrong lengths for the first cases of a call; how many calls were made, and what was wrong.
 pub fn check(call: Call, seed: u64) -> (u64, Vec<String>) {
+    if call == Call::Walk {
+        return lent_table::check(seed);
+    }
     let requests = (0..200).map(|index| cases::by_chance(call, seed, index));
     let mut made = 0;
     let mut faults = Vec::new();

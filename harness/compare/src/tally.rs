@@ -1,6 +1,6 @@
 //! Judges a request by both sides' answers, and counts.
 
-use crate::{added, cases, ours, shrink};
+use crate::{added, cases, original, ours, shrink};
 use request::{Answer, Call, Request};
 use std::collections::BTreeMap;
 use std::thread;
@@ -15,22 +15,19 @@ pub struct Judged {
 }
 
 pub fn judge(request: &Request) -> Judged {
-    Judged {
-        ours: ours::answer(request),
-        original: reference::answer(request),
-        refusal: added::refusal(request),
-        added: added::added(request),
-    }
+    let original = original::answer(request);
+    let refusal = match request.call {
+        // 13 wants the cells counted, which the plain walk has done.
+        Call::Walk => original.refused(),
+        _ => added::refusal(request),
+    };
+    Judged { ours: ours::answer(request), original, refusal, added: added::added(request) }
 }
 
 impl Judged {
     /// Whether an answer is the refusal that document 01 asks for, or none where it asks for none.
     fn keeps_the_table(&self, answer: &Answer) -> bool {
-        match (answer, self.refusal) {
-            (Answer::Refused(n), Some(m)) => *n == m,
-            (Answer::Refused(_), None) | (_, Some(_)) => false,
-            (_, None) => true,
-        }
+        answer.refused() == self.refusal
     }
 
     /// Whether the answers differ, or one breaks the table, where document 01 adds nothing; whether ours is another than the
@@ -60,7 +57,7 @@ pub enum Otherwise {
 
 fn otherwise(original: &Answer) -> Otherwise {
     match original {
-        Answer::Found(_) => Otherwise::Found,
+        Answer::Found(_) | Answer::Walked(_) => Otherwise::Found,
         Answer::None => Otherwise::None,
         Answer::Refused(_) => Otherwise::RefusedByAnother,
         Answer::Panicked => Otherwise::Panicked,
@@ -121,8 +118,9 @@ impl Tally {
                 let key = (n, otherwise(original));
                 self.otherwise.entry(key).or_default().see(index, request);
             }
-            (None, Answer::Found(_)) => self.values += 1,
             (None, Answer::None) => self.none += 1,
+            (None, Answer::Found(_)) => self.values += 1,
+            (None, Answer::Walked(walked)) if walked.refused().is_none() => self.values += 1,
             (None, _) => self.refusals += 1,
         }
         if judged.differs() {

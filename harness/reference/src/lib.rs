@@ -48,7 +48,25 @@ pub const AT_HAND: bool = cfg!(original);
 pub const MISSING: &str = "crates/catallax-field/src/{gyroid,grade}.rs.txt are neither in ../shared/docs/src \
      nor in the directory that GYROID_ORIGINAL names";
 
-/// The original's own answer to a request.
+#[cfg(original)]
+pub use gyroid::access::Leaf;
+
+/// There is no leaf where the original is not at hand.
+#[cfg(not(original))]
+pub enum Leaf {}
+
+#[cfg(not(original))]
+impl Leaf {
+    pub fn new(_: &request::Description) -> Option<Self> {
+        None
+    }
+
+    pub fn state(&self, _: &[i64; 6]) -> u32 {
+        match *self {}
+    }
+}
+
+/// The original's own answer to a request. It has no walk.
 #[cfg(original)]
 pub fn answer(request: &Request) -> Answer {
     match quiet::caught(|| gyroid::access::answer(request)) {

@@ -1,5 +1,6 @@
 //! An answer, its text, and when two answers are the same.
 
+use crate::Walked;
 use std::fmt;
 
 /// One value of an answer.
@@ -15,6 +16,8 @@ pub enum Value {
 #[derive(Clone, Debug)]
 pub enum Answer {
     Found(Vec<Value>),
+    /// What a walk leaves, refused or not.
+    Walked(Walked),
     None,
     Refused(u32),
     /// The original panicked.
@@ -51,22 +54,36 @@ impl Answer {
     pub fn same(&self, other: &Self) -> bool {
         match (self, other) {
             (Answer::Found(a), Answer::Found(b)) => a.len() == b.len() && a.iter().zip(b).all(|(a, b)| a.same(b)),
+            (Answer::Walked(a), Answer::Walked(b)) => a == b,
             (Answer::Refused(a), Answer::Refused(b)) => a == b,
             (Answer::None, Answer::None) => true,
             _ => false,
         }
     }
 
+    /// The number by which it is refused.
+    pub fn refused(&self) -> Option<u32> {
+        match self {
+            Answer::Refused(n) => Some(*n),
+            Answer::Walked(walked) => walked.refused(),
+            _ => None,
+        }
+    }
+
     /// The answer's case, and its number where it is refused: two answers that differ in their values alone are of one kind.
     pub fn kind(&self) -> (u8, u32) {
-        match self {
-            Answer::Found(_) => (0, 0),
-            Answer::None => (1, 0),
-            Answer::Refused(n) => (2, *n),
-            Answer::Panicked => (3, 0),
-            Answer::Unmade => (4, 0),
-            Answer::Unavailable => (5, 0),
+        if let Some(number) = self.refused() {
+            return (2, number);
         }
+        let case = match self {
+            Answer::Found(_) | Answer::Walked(_) => 0,
+            Answer::None => 1,
+            Answer::Refused(_) => 2,
+            Answer::Panicked => 3,
+            Answer::Unmade => 4,
+            Answer::Unavailable => 5,
+        };
+        (case, 0)
     }
 }
 
@@ -91,6 +108,7 @@ impl fmt::Display for Answer {
                 }
                 Ok(())
             }
+            Answer::Walked(walked) => write!(f, "{walked}"),
             Answer::None => write!(f, "none"),
             Answer::Refused(n) => write!(f, "refused {n}"),
             Answer::Panicked => write!(f, "panicked"),

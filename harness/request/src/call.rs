@@ -14,19 +14,30 @@ pub enum Shape {
     Corners,
     /// Three doubles.
     Point,
+    /// A box of whole ticks, a depth and the length of a table in bytes.
+    Walk,
 }
 
 impl Shape {
     pub fn whole(self) -> usize {
-        if self == Shape::Whole { 6 } else { 0 }
+        if matches!(self, Shape::Whole | Shape::Walk) { 6 } else { 0 }
     }
 
     pub fn doubles(self) -> usize {
         match self {
-            Shape::Nothing | Shape::Whole => 0,
+            Shape::Nothing | Shape::Whole | Shape::Walk => 0,
             Shape::World | Shape::WorldPiece => 6,
             Shape::Corners => 18,
             Shape::Point => 3,
+        }
+    }
+
+    /// The numbers that stand last: a piece, or a depth and a table's length.
+    pub fn last(self) -> usize {
+        match self {
+            Shape::WorldPiece => 1,
+            Shape::Walk => 2,
+            _ => 0,
         }
     }
 }
@@ -74,4 +85,5 @@ calls! {
     Planes "planes" Nothing,
     FastDistance "fast_distance" Point,
     Fast "fast" Point,
+    Walk "walk" Walk,
 }

@@ -3,9 +3,11 @@
 mod answer;
 mod call;
 mod line;
+mod walked;
 
 pub use answer::{Answer, Value};
 pub use call::{Call, Shape};
+pub use walked::{SLOT, Walked, unwritten};
 
 /// The entries of a description, in document 01's order.
 pub type Description = [i64; 18];
@@ -20,11 +22,14 @@ pub struct Request {
     /// A box (low and high end of x, of y, of z), three corners (each as a box), or a point.
     pub doubles: [f64; 18],
     pub piece: u32,
+    pub depth: i64,
+    /// The length of the table that a walk is lent, in bytes.
+    pub table: usize,
 }
 
 impl Request {
     pub fn new(call: Call, description: Description) -> Self {
-        Self { call, description, whole: [0; 6], doubles: [0.0; 18], piece: 0 }
+        Self { call, description, whole: [0; 6], doubles: [0.0; 18], piece: 0, depth: 0, table: 0 }
     }
 
     /// The doubles that the call takes.

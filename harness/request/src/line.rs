@@ -26,6 +26,14 @@ fn piece(word: &str) -> Result<u32, String> {
     u32::try_from(whole(word)?).map_err(|_| format!("{word:?} does not fit a piece's 32 bits"))
 }
 
+/// The longest table that a line can ask for: more bytes than the cells of most walks fill.
+const LONGEST: usize = 1 << 30;
+
+fn length(word: &str) -> Result<usize, String> {
+    let fits = usize::try_from(whole(word)?).ok().filter(|length| *length <= LONGEST);
+    fits.ok_or_else(|| format!("{word:?} is no table's length, which is 0 to {LONGEST} bytes"))
+}
+
 impl FromStr for Request {
     type Err = String;
 
@@ -35,9 +43,8 @@ impl FromStr for Request {
         let call = Call::ALL.iter().find(|call| call.name() == name);
         let call = *call.ok_or_else(|| format!("{name:?} is no call"))?;
         let shape = call.shape();
-        let pieces = usize::from(shape == Shape::WorldPiece);
         let words: Vec<&str> = words.collect();
-        let wanted = 18 + shape.whole() + shape.doubles() + pieces;
+        let wanted = 18 + shape.whole() + shape.doubles() + shape.last();
         if words.len() != wanted {
             return Err(format!("{name} takes {wanted} numbers, not {}", words.len()));
         }
@@ -54,8 +61,10 @@ impl FromStr for Request {
         for (entry, word) in request.doubles.iter_mut().zip(doubles) {
             *entry = double(word)?;
         }
-        if let [word] = rest {
-            request.piece = piece(word)?;
+        match rest {
+            [word] => request.piece = piece(word)?,
+            [depth, table] => (request.depth, request.table) = (whole(depth)?, length(table)?),
+            _ => {}
         }
         Ok(request)
     }
@@ -70,10 +79,11 @@ impl fmt::Display for Request {
         for v in self.doubles() {
             write!(f, " {}", Value::Double(*v))?;
         }
-        if self.call.shape() == Shape::WorldPiece {
-            write!(f, " {}", self.piece)?;
+        match self.call.shape() {
+            Shape::WorldPiece => write!(f, " {}", self.piece),
+            Shape::Walk => write!(f, " {} {}", self.depth, self.table),
+            _ => Ok(()),
         }
-        Ok(())
     }
 }
 
@@ -97,8 +107,10 @@ mod tests {
             for i in 0..call.shape().doubles() {
                 request.doubles[i] = 1.0 / (i as f64 - 3.0);
             }
-            if call == Call::Derivatives {
-                request.piece = u32::MAX;
+            match call {
+                Call::Derivatives => request.piece = u32::MAX,
+                Call::Walk => (request.depth, request.table) = (i64::MIN, LONGEST),
+                _ => {}
             }
             assert_eq!(request.to_string().parse(), Ok(request));
         }
@@ -116,7 +128,8 @@ mod tests {
     #[test]
     fn what_is_no_request_is_named() {
         assert_eq!(error(""), r#""" is no call"#);
-        assert_eq!(error("walk 1"), r#""walk" is no call"#);
+        assert_eq!(error("turn 1"), r#""turn" is no call"#);
+        assert_eq!(error("walk 1"), "walk takes 26 numbers, not 1");
         assert_eq!(error("graded 1"), "graded takes 18 numbers, not 1");
         assert_eq!(error(&format!("graded {ENTRIES} ")), "graded takes 18 numbers, not 19");
         assert_eq!(error(&format!("graded {}", ENTRIES.replace("10240", "+1"))), r#""+1" is no whole number"#);
@@ -128,5 +141,8 @@ mod tests {
         assert_eq!(error(&format!("fast {ENTRIES} 0 0 0")), r#""0" is not 16 hexadecimal digits"#);
         let zeros = ["0000000000000000"; 6].join(" ");
         assert_eq!(error(&format!("derivatives {ENTRIES} {zeros} -1")), r#""-1" does not fit a piece's 32 bits"#);
+        let lengths = "is no table's length, which is 0 to 1073741824 bytes";
+        assert_eq!(error(&format!("walk {ENTRIES} 0 0 0 1 1 1 0 -1")), format!(r#""-1" {lengths}"#));
+        assert_eq!(error(&format!("walk {ENTRIES} 0 0 0 1 1 1 0 1073741825")), format!(r#""1073741825" {lengths}"#));
     }
 }

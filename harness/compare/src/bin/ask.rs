@@ -13,9 +13,12 @@ const HELP: &str = "ask [--reference]: one request a line on standard input, one
   facet_residual                                    args: three corners, each as six ends
   fast fast_distance                                args: x, y, z
   curvature lipschitz saturated graded planes       no args
+  walk                                              args: three lows, three highs, in ticks, depth, the table's bytes
 
+A walk's answer is cells, evaluated, solid, open, then state, lows, highs of each cell.
 Answers: the values, `none`, `refused N`, or `error: ..` for a line that is no request (the exit status is then 1).
-With --reference the original answers, or `panicked`, or `unmade` where the input cannot be made into its types.";
+With --reference the original answers, or `panicked`, or `unmade` where the input cannot be made into its types;
+to a walk a plain one over the original's box_state.";
 
 /// One answer a line; whether every line was a request.
 fn answer_all(answer: fn(&Request) -> Answer) -> io::Result<bool> {
@@ -38,7 +41,7 @@ fn main() -> ExitCode {
     let arguments: Vec<String> = std::env::args().skip(1).collect();
     let answer = match arguments.iter().map(String::as_str).collect::<Vec<_>>()[..] {
         [] => compare::ours::answer,
-        ["--reference"] if reference::AT_HAND => reference::answer,
+        ["--reference"] if reference::AT_HAND => compare::original::answer,
         ["--reference"] => {
             eprintln!("ask: the original is not at hand: {}", reference::MISSING);
             return ExitCode::from(2);

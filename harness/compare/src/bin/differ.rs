@@ -9,9 +9,10 @@ const SEED: u64 = 1;
 
 const HELP: &str = "differ [COUNT [SEED]]: both sides on the same requests, every answer compared by bits
 
-COUNT (2000) cases by chance for each of the 16 calls, from SEED (1), in addition to a systematic part that is the same every time:
+COUNT (2000) cases by chance for each of the 17 calls, from SEED (1), in addition to a systematic part that is the same every time:
 every entry at every special number, every pair of the refusal table's rows, every pair of special doubles and of special ticks as
-the ends of each axis. A zero's sign is open, and fractions are compared by value.
+the ends of each axis. A zero's sign is open, and fractions are compared by value. Of a walk every byte of the table is compared,
+refused or not, with a plain walk over the original's box_state.
 
 `added N` counts requests that document 01 refuses by N where the original has no such refusal; ours must be that refusal.
 The exit status is 1 where an answer differs. Where the original is not at hand only the lent slices are checked.";

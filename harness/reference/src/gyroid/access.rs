@@ -1,4 +1,4 @@
-//! Asks the original by request. A child of the original's module, so that it reaches what is private there.
+//! Asks the original by request, or by box. A child of the original's module, so that it reaches what is private there.
 
 use super::{Gyroid, Jet};
 use crate::grade::{Piece, grade_range};
@@ -87,6 +87,15 @@ fn refused(refusal: Refusal) -> Answer {
     })
 }
 
+/// Document 01's number of a state.
+fn state_number(state: BoxState) -> u32 {
+    match state {
+        BoxState::Inside => 1,
+        BoxState::Outside => 2,
+        BoxState::Unknown => 3,
+    }
+}
+
 fn range(request: &Request) -> Option<Answer> {
     let level = level(&request.description)?;
     let [lo, hi] = [0, 3].map(|first| std::array::from_fn(|i| ticks(request.whole[first + i])));
@@ -102,6 +111,7 @@ fn on_leaf(leaf: &Gyroid, request: &Request) -> Option<Answer> {
     let point = || std::array::from_fn(|i| request.doubles[i]);
     let found = match request.call {
         Call::GradeRange => unreachable!("it takes a level only"),
+        Call::Walk => unreachable!("the original has none"),
         Call::LevelPiece => {
             let bounds = std::array::from_fn(|i| [0, 3].map(|at| ticks(request.whole[at + i])));
             leaf.level_piece(&bounds).map(|piece| {
@@ -120,12 +130,10 @@ fn on_leaf(leaf: &Gyroid, request: &Request) -> Option<Answer> {
         }
         Call::Residual => leaf.residual(&world()?).map(|value| ends([value])),
         Call::AffineResidual => leaf.affine_residual(&world()?).map(|value| ends([value])),
-        Call::BoxState => match leaf.box_state(&world()?, &mut Decider) {
-            Ok(BoxState::Inside) => Some(Answer::number(1)),
-            Ok(BoxState::Outside) => Some(Answer::number(2)),
-            Ok(BoxState::Unknown) => Some(Answer::number(3)),
-            Err(refusal) => Some(refused(refusal)),
-        },
+        Call::BoxState => Some(match leaf.box_state(&world()?, &mut Decider) {
+            Ok(state) => Answer::number(state_number(state).into()),
+            Err(refusal) => refused(refusal),
+        }),
         Call::FacetResidual => {
             let [a, b, c, d, e, f, g, h, i] = intervals::<9>(request.doubles())?;
             let corners = [[a, b, c], [d, e, f], [g, h, i]];
@@ -146,17 +154,43 @@ fn on_leaf(leaf: &Gyroid, request: &Request) -> Option<Answer> {
     Some(found.unwrap_or(Answer::None))
 }
 
+/// The compiled leaf; nothing where a kind is none of the original's cases.
+fn certified(d: &Description) -> Option<Result<Gyroid, Refusal>> {
+    Some(Gyroid::certified(&ticks(d[0]), &level(d)?, kind(d)?, &frame(d)))
+}
+
 fn on_description(request: &Request) -> Option<Answer> {
-    let d = &request.description;
-    match Gyroid::certified(&ticks(d[0]), &level(d)?, kind(d)?, &frame(d)) {
+    match certified(&request.description)? {
         Ok(leaf) => on_leaf(&leaf, request),
         Err(refusal) => Some(refused(refusal)),
     }
 }
 
 pub(crate) fn answer(request: &Request) -> Answer {
-    let made = if request.call == Call::GradeRange { range(request) } else { on_description(request) };
+    let made = match request.call {
+        Call::GradeRange => range(request),
+        Call::Walk => return Answer::Unavailable,
+        _ => on_description(request),
+    };
     made.unwrap_or(Answer::Unmade)
+}
+
+/// A compiled leaf of the original, to be asked about box after box.
+pub struct Leaf(Gyroid);
+
+impl Leaf {
+    /// Nothing where the original refuses the description.
+    pub fn new(d: &Description) -> Option<Self> {
+        certified(d)?.ok().map(Leaf)
+    }
+
+    /// The number of the state of a box of whole ticks, "its ends n/1024 exactly".
+    pub fn state(&self, bounds: &[i64; 6]) -> u32 {
+        let end = |i: usize| bounds[i] as f64 / UNIT as f64;
+        let world = [0, 1, 2].map(|i| Interval::new(end(i), end(i + 3)).expect("a span is not below 0"));
+        let state = self.0.box_state(&world, &mut Decider);
+        state_number(state.unwrap_or_else(|refusal| unreachable!("code {}", refusal.code)))
+    }
 }
 
 #[cfg(test)]

@@ -1,0 +1,171 @@
+//! The table that a walk leaves, for reading: a head, then a chain of cells, in slots of 32 bytes, little endian.
+
+use crate::{Bounds, State};
+
+/// The bytes of a slot: a walk of n cells wants a table of n + 1 slots.
+pub const SLOT: usize = 32;
+
+/// A walk's table. [`walk`](crate::walk) answers one; [`Table::read`] makes one of bytes that were kept.
+#[derive(Clone, Copy, Debug)]
+pub struct Table<'a> {
+    /// A slot at least.
+    bytes: &'a [u8],
+}
+
+/// What slot 0 says.
+#[derive(Clone, Copy, Debug, PartialEq, Eq, Hash)]
+pub struct Head {
+    /// The slot of the first cell.
+    pub first: u32,
+    /// The number of cells.
+    pub cells: u32,
+    /// The number of boxes that were evaluated: the cells, and every box that was halved.
+    pub evaluated: u32,
+    /// The volume of the cells inside, in tick cubes.
+    pub solid: u64,
+    /// The volume of the rest of the box, in tick cubes.
+    pub open: u64,
+}
+
+/// A box that the walk did not halve, and its mark.
+#[derive(Clone, Copy, Debug, PartialEq, Eq, Hash)]
+pub struct Cell {
+    /// The mark.
+    pub state: State,
+    /// The box, in ticks.
+    pub bounds: Bounds,
+}
+
+/// The cells along a table's chain.
+#[derive(Clone, Debug)]
+pub struct Cells<'a> {
+    table: Table<'a>,
+    /// Zero ends the chain.
+    slot: u32,
+}
+
+impl<'a> Table<'a> {
+    /// A table that a walk has just filled.
+    pub(crate) fn filled(bytes: &'a [u8]) -> Self {
+        Self { bytes }
+    }
+
+    /// The table in these bytes, or `None` where they hold no chain of as many cells as the head says. Bytes that are all zero, as a
+    /// walk refused by 13 leaves them, are a table without cells.
+    pub fn read(bytes: &'a [u8]) -> Option<Self> {
+        let slots = bytes.len() / SLOT;
+        if slots == 0 {
+            return None;
+        }
+        let table = Self { bytes };
+        let count = table.head().cells as usize;
+        let mut cells = table.cells();
+        // A chain of more cells than slots runs in a circle.
+        let whole = count < slots && cells.by_ref().take(count).count() == count && cells.slot == 0;
+        whole.then_some(table)
+    }
+
+    /// Slot 0.
+    pub fn head(&self) -> Head {
+        Head {
+            first: self.u32_at(0),
+            cells: self.u32_at(4),
+            evaluated: self.u32_at(8),
+            solid: u64::from_le_bytes(self.at(12)),
+            open: u64::from_le_bytes(self.at(20)),
+        }
+    }
+
+    /// The cells in the chain's order, which is the walk's.
+    pub fn cells(&self) -> Cells<'a> {
+        Cells { table: *self, slot: self.u32_at(0) }
+    }
+
+    fn at<const N: usize>(&self, place: usize) -> [u8; N] {
+        core::array::from_fn(|i| self.bytes[place + i])
+    }
+
+    fn u32_at(&self, place: usize) -> u32 {
+        u32::from_le_bytes(self.at(place))
+    }
+
+    fn corner(&self, place: usize) -> [i64; 3] {
+        [0, 4, 8].map(|offset| i32::from_le_bytes(self.at(place + offset)).into())
+    }
+
+    /// The next slot and the cell in a slot; nothing where there is no such slot or no such state.
+    fn cell(&self, slot: u32) -> Option<(u32, Cell)> {
+        if slot as usize >= self.bytes.len() / SLOT {
+            return None;
+        }
+        let place = slot as usize * SLOT;
+        let state = State::of(self.u32_at(place + 4).into())?;
+        let bounds = Bounds { low: self.corner(place + 8), high: self.corner(place + 20) };
+        Some((self.u32_at(place), Cell { state, bounds }))
+    }
+}
+
+impl Iterator for Cells<'_> {
+    type Item = Cell;
+
+    fn next(&mut self) -> Option<Cell> {
+        if self.slot == 0 {
+            return None;
+        }
+        let (next, cell) = self.table.cell(self.slot)?;
+        self.slot = next;
+        Some(cell)
+    }
+}
+
+#[cfg(test)]
+mod tests {
+    extern crate std;
+
+    use super::*;
+    use std::vec::Vec;
+
+    const HEAD: [i32; 8] = [2, 2, 3, 7, 0, -1, -1, 0];
+    const INSIDE: [i32; 8] = [1, 1, -1, 0, 0, 1, 1, 1];
+    const UNSETTLED: [i32; 8] = [0, 3, 1, 0, 0, 2, 1, 1];
+
+    fn bytes(slots: &[[i32; 8]]) -> Vec<u8> {
+        slots.as_flattened().iter().flat_map(|n| n.to_le_bytes()).collect()
+    }
+
+    fn with(slot: [i32; 8], place: usize, number: i32) -> [i32; 8] {
+        let mut slot = slot;
+        slot[place] = number;
+        slot
+    }
+
+    #[test]
+    fn head_and_cells_along_the_chain() {
+        let bytes = bytes(&[HEAD, UNSETTLED, INSIDE, [0; 8]]);
+        let table = Table::read(&bytes).unwrap();
+        assert_eq!(table.head(), Head { first: 2, cells: 2, evaluated: 3, solid: 7, open: u64::MAX });
+        let cells: Vec<Cell> = table.cells().collect();
+        let cell = |state, low, high| Cell { state, bounds: Bounds { low, high } };
+        assert_eq!(cells, [cell(State::Inside, [-1, 0, 0], [1, 1, 1]), cell(State::Unsettled, [1, 0, 0], [2, 1, 1])]);
+    }
+
+    #[test]
+    fn all_zero_is_a_table_without_cells() {
+        assert_eq!(Table::read(&[0; 33]).unwrap().cells().next(), None);
+        assert!(Table::read(&[0; 31]).is_none());
+    }
+
+    #[test]
+    fn a_broken_chain_is_no_table() {
+        let broken = |slots: &[[i32; 8]]| Table::read(&bytes(slots)).is_none();
+        assert!(!broken(&[HEAD, UNSETTLED, INSIDE]));
+        assert!(broken(&[HEAD, UNSETTLED]));
+        assert!(broken(&[with(HEAD, 0, 3), UNSETTLED, INSIDE]));
+        assert!(broken(&[with(HEAD, 0, -1), UNSETTLED, INSIDE]));
+        assert!(broken(&[with(HEAD, 1, 1), UNSETTLED, INSIDE]));
+        assert!(broken(&[with(HEAD, 1, 3), UNSETTLED, INSIDE, [0; 8]]));
+        assert!(broken(&[with(HEAD, 1, -1), with(UNSETTLED, 0, 2), INSIDE]));
+        assert!(broken(&[HEAD, with(UNSETTLED, 0, 2), INSIDE]));
+        assert!(broken(&[HEAD, with(UNSETTLED, 1, 4), INSIDE]));
+    }
+}

@@ -1,0 +1,63 @@
+//! The walk's speed beside the original's, and the stack that it takes. Nothing here is a test.
+
+use compare::race::{Race, cases, race};
+use compare::stack;
+use std::process::ExitCode;
+use std::time::Duration;
+
+const HELP: &str = "bench: cells a second of whole walks, ours and the original's, and their ratio; then the stack of a walk of depth 24
+
+Each walk is made five times by each side, in turns, and the best time of each counts. Both sides walk the tree twice, to count it and
+to write it. The original has no walk: a plain one over its box_state stands in. The tables are compared before anything is timed.";
+
+fn a_second(cells: u32, time: Duration) -> f64 {
+    f64::from(cells) / time.as_secs_f64()
+}
+
+fn line(name: &str, race: &Race) -> String {
+    let ours = a_second(race.cells, race.ours);
+    let beside = race.original.map(|time| {
+        let original = a_second(race.cells, time);
+        format!("the original's {original:.0}, ratio {:.2}", ours / original)
+    });
+    let beside = beside.unwrap_or("the original is not at hand".into());
+    format!("{name}, {} cells: {ours:.0} cells a second, {beside}", race.cells)
+}
+
+/// Prints a line, or why there is none; whether there was one.
+fn said(line: Result<String, String>, name: &str) -> bool {
+    match &line {
+        Ok(line) => println!("{line}"),
+        Err(why) => eprintln!("bench: {name}: {why}"),
+    }
+    line.is_ok()
+}
+
+fn bench() -> ExitCode {
+    let mut all = true;
+    for (name, request) in cases() {
+        all &= said(race(&request).map(|race| line(name, &race)), name);
+    }
+    let taken = stack::measure().map(|bytes| format!("stack, depth 24: {bytes} bytes"));
+    all &= said(taken, "stack");
+    if all { ExitCode::SUCCESS } else { ExitCode::FAILURE }
+}
+
+fn main() -> ExitCode {
+    let arguments: Vec<String> = std::env::args().skip(1).collect();
+    match arguments.iter().map(String::as_str).collect::<Vec<_>>()[..] {
+        [] => bench(),
+        [stack::FLAG, walks, bytes] => {
+            stack::child(walks == "1", bytes.parse().unwrap_or(0));
+            ExitCode::SUCCESS
+        }
+        ["--help"] => {
+            println!("{HELP}");
+            ExitCode::SUCCESS
+        }
+        _ => {
+            eprintln!("{HELP}");
+            ExitCode::from(2)
+        }
+    }
+}

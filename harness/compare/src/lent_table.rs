@@ -1,0 +1,65 @@
+//! What the static library promises of a walk's lent slices: lengths are tested before all else, a table may start and end at any
+//! byte, and nothing beside it is touched.
+
+use crate::{cases, ours};
+use gyroid_cells::raw::{self, LENGTH};
+use request::{Answer, Call, Request, Walked, unwritten};
+
+/// Bytes on either side of the table; an odd number, so that no slot is aligned.
+const MARGIN: usize = 61;
+/// The lengths of the description and of the bounds.
+const LENGTHS: [[usize; 2]; 9] = [[18, 6], [17, 6], [19, 6], [0, 6], [18, 0], [18, 5], [18, 7], [17, 5], [19, 7]];
+
+/// Lends the first entries of the description and of the bounds, and the table amid its margins.
+fn lend(request: &Request, [length, lent]: [usize; 2], around: &mut [u8]) -> u32 {
+    let mut d = [0; 19];
+    d[..18].copy_from_slice(&request.description);
+    let mut bounds = [0; 7];
+    bounds[..6].copy_from_slice(&request.whole);
+    assert!(length <= d.len() && lent <= bounds.len());
+    let table = &mut around[MARGIN..][..request.table];
+    let (at, room) = (table.as_mut_ptr(), table.len());
+    // Every pointer is of an array that is at least as long as the length beside it.
+    unsafe { raw::gyroid_walk(d.as_ptr(), length, bounds.as_ptr(), lent, request.depth, at, room) }
+}
+
+/// A table amid its margins.
+fn amid(table: &[u8]) -> Vec<u8> {
+    let margin = unwritten(MARGIN);
+    [&margin, table, &margin].concat()
+}
+
+/// What these lengths ask for, where `walked` is the answer to the right ones.
+fn expected(lengths: [usize; 2], walked: Walked) -> Walked {
+    let table = unwritten(walked.table.len());
+    match lengths {
+        [18, 6] => walked,
+        [_, 6] => Walked { status: 1, table },
+        _ => Walked { status: LENGTH, table },
+    }
+}
+
+fn wrong(request: &Request, lengths: [usize; 2], walked: Walked) -> Option<String> {
+    let mut around = amid(&unwritten(request.table));
+    let status = lend(request, lengths, &mut around);
+    let expected = expected(lengths, walked);
+    let left = around == amid(&expected.table);
+    (status != expected.status || !left).then(|| {
+        let asked = expected.status;
+        format!("{request}\n    lengths {lengths:?}: status {status}, not {asked}; the bytes are as asked for: {left}")
+    })
+}
+
+/// Lends slices of right and wrong lengths for the first cases; how many calls were made, and what was wrong.
+pub fn check(seed: u64) -> (u64, Vec<String>) {
+    let mut made = 0;
+    let mut faults = Vec::new();
+    for request in (0..200).map(|index| cases::by_chance(Call::Walk, seed, index)) {
+        let Answer::Walked(walked) = ours::answer(&request) else { unreachable!("a walk's answer") };
+        for lengths in LENGTHS {
+            made += 1;
+            faults.extend(wrong(&request, lengths, walked.clone()));
+        }
+    }
+    (made, faults)
+}

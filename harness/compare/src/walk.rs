@@ -1,0 +1,188 @@
+//! Document 01's walk in plain Rust over the original's box state, which is all that the original has of it. The tree is walked twice:
+//! to count it, then to write it.
+
+use crate::added;
+use reference::Leaf;
+use request::{Answer, Request, SLOT, Walked, unwritten};
+
+/// A box of whole ticks: three lows, then three highs.
+pub type Bounds = [i64; 6];
+
+const INSIDE: u32 = 1;
+const UNSETTLED: u32 = 3;
+
+fn spans(bounds: &Bounds) -> [i64; 3] {
+    [0, 1, 2].map(|i| bounds[3 + i] - bounds[i])
+}
+
+/// The tick cubes in a box: up to 2^63, one more than a signed number holds.
+fn volume(bounds: &Bounds) -> u64 {
+    spans(bounds).map(i64::unsigned_abs).iter().product()
+}
+
+/// "Halve the longest span, ties to the lowest axis, at low + span div 2; lower half first." A tick cube has no halves.
+fn halves(bounds: &Bounds) -> Option<[Bounds; 2]> {
+    let spans = spans(bounds);
+    let longest = *spans.iter().max()?;
+    let axis = spans.iter().position(|span| *span == longest)?;
+    let [mut lower, mut upper] = [*bounds; 2];
+    upper[axis] += longest / 2;
+    lower[3 + axis] = upper[axis];
+    (longest > 1).then_some([lower, upper])
+}
+
+/// Gives every cell of the box and its state to `cell`, in walk order; answers how many boxes were evaluated.
+fn walk(leaf: &Leaf, bounds: &Bounds, depth: i64, cell: &mut impl FnMut(u32, &Bounds)) -> u32 {
+    let state = leaf.state(bounds);
+    let halves = if state == UNSETTLED && depth > 0 { halves(bounds) } else { None };
+    match halves {
+        Some([lower, upper]) => 1 + walk(leaf, &lower, depth - 1, cell) + walk(leaf, &upper, depth - 1, cell),
+        None => {
+            cell(state, bounds);
+            1
+        }
+    }
+}
+
+/// Writes numbers one after the other, little endian.
+fn put<const N: usize>(table: &mut [u8], at: usize, numbers: impl IntoIterator<Item = [u8; N]>) {
+    for (i, number) in numbers.into_iter().enumerate() {
+        table[at + N * i..][..N].copy_from_slice(&number);
+    }
+}
+
+/// Walks an accepted box and leaves its table; the status: 0, or 13 where the room is too small.
+pub fn fill(leaf: &Leaf, bounds: &Bounds, depth: i64, table: &mut [u8]) -> u32 {
+    let (mut cells, mut solid) = (0_u32, 0);
+    let evaluated = walk(leaf, bounds, depth, &mut |state, bounds| {
+        cells += 1;
+        solid += if state == INSIDE { volume(bounds) } else { 0 };
+    });
+    table.fill(0);
+    if cells as usize + 1 > table.len() / SLOT {
+        return 13;
+    }
+    put(table, 0, [1, cells, evaluated].map(u32::to_le_bytes));
+    put(table, 12, [solid, volume(bounds) - solid].map(u64::to_le_bytes));
+    let mut slot = 0;
+    walk(leaf, bounds, depth, &mut |state, bounds| {
+        slot += 1;
+        let next = if slot == cells { 0 } else { slot + 1 };
+        let at = slot as usize * SLOT;
+        put(table, at, [next, state].map(u32::to_le_bytes));
+        put(table, at + 8, bounds.map(|end| (end as i32).to_le_bytes()));
+    });
+    0
+}
+
+/// The number of cells of a walk; nothing where it is refused, or where the original is not at hand.
+pub fn cells(request: &Request) -> Option<u32> {
+    if added::refusal(request).is_some() {
+        return None;
+    }
+    let mut cells = 0;
+    walk(&Leaf::new(&request.description)?, &request.whole, request.depth, &mut |_, _| cells += 1);
+    Some(cells)
+}
+
+/// No walk of this box to this depth has more cells; one of a refused depth has none.
+pub fn most_cells(request: &Request) -> u64 {
+    if !(0..=24).contains(&request.depth) {
+        return 0;
+    }
+    let cubes = (0..3).map(|i| request.whole[i].abs_diff(request.whole[3 + i]));
+    let cubes = cubes.fold(1_u64, |product, span| product.saturating_mul(span));
+    cubes.min(1 << request.depth)
+}
+
+pub fn answer(request: &Request) -> Answer {
+    let mut table = unwritten(request.table);
+    let status = match (added::refusal(request), Leaf::new(&request.description)) {
+        (Some(number), _) => number,
+        (None, Some(leaf)) => fill(&leaf, &request.whole, request.depth, &mut table),
+        (None, None) => return Answer::Unavailable,
+    };
+    Answer::Walked(Walked { status, table })
+}
+
+#[cfg(test)]
+mod tests {
+    use super::*;
+    use gyroid_cells::Table;
+
+    const LISTING: &str = "walk 10240 0 0 0 0 0 0 0 0 2048 0 1 0 0 0 0 0 0 0 0 0 1024 1024 1024";
+
+    fn walked(line: &str) -> Walked {
+        match answer(&line.parse().unwrap()) {
+            Answer::Walked(walked) => walked,
+            other => panic!("{other}"),
+        }
+    }
+
+    fn asked(depth: i64, length: usize) -> Walked {
+        walked(&format!("{LISTING} {depth} {length}"))
+    }
+
+    #[test]
+    fn listing() {
+        if !reference::AT_HAND {
+            return;
+        }
+        let said = "2 3 536870912 536870912 1 0 0 0 512 1024 1024 3 512 0 0 1024 1024 1024";
+        assert_eq!(asked(1, 65536).to_string(), said);
+        let numbers: [[u32; 8]; 4] = [
+            [1, 2, 3, 536870912, 0, 536870912, 0, 0],
+            [2, 1, 0, 0, 0, 512, 1024, 1024],
+            [0, 3, 512, 0, 0, 1024, 1024, 1024],
+            [0; 8],
+        ];
+        let bytes: Vec<u8> = numbers.as_flattened().iter().flat_map(|n| n.to_le_bytes()).collect();
+        assert_eq!(asked(1, 128), Walked { status: 0, table: bytes });
+    }
+
+    #[test]
+    fn room() {
+        if !reference::AT_HAND {
+            return;
+        }
+        assert_eq!(asked(1, 96).status, 0);
+        assert_eq!(asked(1, 95), Walked { status: 13, table: vec![0; 95] });
+        assert_eq!(asked(0, 63), Walked { status: 13, table: vec![0; 63] });
+        assert_eq!(asked(25, 63), Walked { status: 12, table: unwritten(63) });
+    }
+
+    #[test]
+    fn halves_of_the_longest_span_at_its_floor() {
+        let at = |bounds: Bounds| halves(&bounds).map(|[lower, upper]| (lower[3..].to_vec(), upper[..3].to_vec()));
+        assert_eq!(at([0, 0, 0, 1, 1, 1]), None);
+        assert_eq!(at([0, 0, 0, 1, 1, 2]), Some((vec![1, 1, 1], vec![0, 0, 1])));
+        assert_eq!(at([0, 0, 0, 4, 5, 5]), Some((vec![4, 2, 5], vec![0, 2, 0])));
+        assert_eq!(at([0, 0, 0, 5, 5, 5]), Some((vec![2, 5, 5], vec![2, 0, 0])));
+        // −3 + 1, where (−3 + 0) div 2 would be −1.
+        assert_eq!(at([-3, 0, 0, 0, 1, 1]), Some((vec![-2, 1, 1], vec![-2, 0, 0])));
+    }
+
+    #[test]
+    fn volumes_reach_two_to_the_63() {
+        let end = 1 << 20;
+        assert_eq!(volume(&[-end, -end, -end, end, end, end]), 1 << 63);
+    }
+
+    /// The bindings' reader, on a table of many cells, says what this workspace's does.
+    #[test]
+    fn read_by_the_bindings() {
+        if !reference::AT_HAND {
+            return;
+        }
+        let walked = walked(&format!("{} 9 65536", LISTING.replace("2048", "0")));
+        let table = Table::read(&walked.table).unwrap();
+        let head = table.head();
+        let mut text = format!("{} {} {} {}", head.cells, head.evaluated, head.solid, head.open);
+        for cell in table.cells() {
+            let bounds = cell.bounds.low.into_iter().chain(cell.bounds.high);
+            text += &bounds.fold(format!(" {}", cell.state as u32), |text, end| format!("{text} {end}"));
+        }
+        assert!(head.cells > 10);
+        assert_eq!(text, walked.to_string());
+    }
+}

@@ -1,0 +1,231 @@
+//! The fixed list of walks that the program `replay` reads, as bytes. crates/replay/src/walks.rt says how.
+
+use crate::chance::Chance;
+use crate::entries::*;
+use crate::list::whole;
+use crate::{cases, descriptions, walk, walks};
+use request::{Answer, Call, Description, Request, SLOT};
+
+const SEED: u64 = 1;
+/// The longest table of a record: 127 cells.
+const LONGEST: usize = 128 * SLOT;
+/// Walks by chance.
+const CHANCES: usize = 60;
+
+fn constant(period: i64, level: i64) -> Description {
+    let mut d = PLAIN;
+    (d[PERIOD], d[START]) = (period, level);
+    d
+}
+
+/// A linear level along one axis, from `anchors[0]` to `anchors[1]`.
+fn ramp(period: i64, axis: usize, anchors: [i64; 2], levels: [i64; 2]) -> Description {
+    let mut d = PLAIN;
+    (d[PERIOD], d[LEVEL_KIND]) = (period, LINEAR);
+    [d[FROM + axis], d[TO + axis]] = anchors;
+    [d[START], d[END]] = levels;
+    d
+}
+
+/// A box by its lows and spans.
+fn bounds(low: [i64; 3], spans: [i64; 3]) -> [i64; 6] {
+    std::array::from_fn(|i| if i < 3 { low[i] } else { low[i - 3] + spans[i - 3] })
+}
+
+/// A walk with as many bytes as its cells want; any few where it is refused before it is counted.
+fn exact(description: Description, whole: [i64; 6], depth: i64) -> Request {
+    let mut request = Request { whole, depth, ..Request::new(Call::Walk, description) };
+    request.table = (walk::cells(&request).unwrap_or(1) as usize + 1) * SLOT;
+    request
+}
+
+/// Constants of several periods, a linear level with equal ends among them: depths 0 to 7 of boxes below, about and above the origin.
+fn constants(out: &mut Vec<Request>) {
+    let equal = ramp(4096, 1, [-3, 5], [-300, -300]);
+    for d in [constant(10240, 0), constant(1024, 600), constant(3001, -700), equal] {
+        let period = d[PERIOD];
+        for depth in 0..8 {
+            let low = [-period, -1 - period / 8, depth * period / 16];
+            let spans = [period / 4, period / 4 + depth % 3 - 1, period / 3];
+            out.push(exact(d, bounds(low, spans), depth));
+        }
+    }
+}
+
+/// Boxes before, up to, across and after each plane of a ramp, and across both.
+fn ramps(out: &mut Vec<Request>) {
+    let ramps = [
+        (0, ramp(10240, 0, [0, 10240], [-256, 256])),
+        (1, ramp(2048, 1, [1024, -4096], [256, -256])),
+        (2, ramp(1500, 2, [-5000, -2000], [0, 200])),
+        (0, ramp(TICKS, 0, [TICKS / 2, -TICKS / 2], [1, 0])),
+    ];
+    for (axis, d) in ramps {
+        let (start, end) = (d[FROM + axis], d[TO + axis]);
+        let (low, high) = (start.min(end), start.max(end));
+        let (span, third) = (d[PERIOD] / 5, (high - low) / 3);
+        let ends = [
+            [low - span - 1, low - 1],
+            [low - span, low],
+            [low - span, low + 1],
+            [low, low + span],
+            [low + third, high - third],
+            [high - span, high],
+            [high - 1, high + span],
+            [high, high + span],
+            [low - span, high + span],
+        ];
+        for (depth, ends) in (1..).zip(ends) {
+            let mut whole = [-span / 2, 7, -2 * span, span - 1, 8 + span, -span];
+            [whole[axis], whole[3 + axis]] = ends;
+            out.push(exact(d, whole, depth.min(7)));
+        }
+    }
+}
+
+/// Boxes that are walked down to tick cubes, where nothing settles and where some does; spans that tie or are 1; the largest boxes.
+fn extremes(out: &mut Vec<Request>) {
+    let unsettled = [
+        [1, 1, 1],
+        [1, 1, 2],
+        [2, 1, 1],
+        [1, 3, 1],
+        [2, 2, 2],
+        [3, 3, 3],
+        [4, 5, 5],
+        [5, 5, 5],
+        [1, 1, 127],
+        [7, 1, 18],
+    ];
+    for (y, spans) in (-5..).zip(unsettled) {
+        out.push(exact(constant(1, 0), bounds([-3, y, -TICKS], spans), 24));
+    }
+    for (y, spans) in (-2..).zip([[4, 1, 10], [3, 4, 4], [1, 16, 1], [6, 6, 1]]) {
+        out.push(exact(constant(12, 300), bounds([TICKS - 9, y, -5], spans), 24));
+    }
+    for depth in [0, 1, 3, 6] {
+        out.push(exact(PLAIN, bounds([-TICKS; 3], [2 * TICKS; 3]), depth));
+    }
+}
+
+/// Tables about the room that a walk wants.
+fn rooms(out: &mut Vec<Request>) {
+    let ramp = ramp(10240, 0, [0, 10240], [-256, 256]);
+    let walks = [
+        exact(constant(10240, 2048), [0, 0, 0, 1024, 1024, 1024], 1),
+        exact(constant(10240, 2048), [0, 0, 0, 1024, 1024, 1024], 0),
+        exact(ramp, [-1000, -7, 0, 3000, 2000, 2500], 5),
+    ];
+    for walk in walks {
+        let about = [-32, -1, 1, 31, 32, 103].map(|more| walk.table.saturating_add_signed(more));
+        out.extend([0, 1, 31, 32, 63].into_iter().chain(about).map(|table| Request { table, ..walk }));
+    }
+}
+
+fn broken(row: fn(&mut Request), mut request: Request) -> Request {
+    row(&mut request);
+    request
+}
+
+/// Every row of the refusal table that a walk can break, the walk's own in pairs and each of the others with one of them.
+fn refusals(out: &mut Vec<Request>) {
+    let accepted = Request { table: 100, ..exact(PLAIN, [-9, 0, 3, 9, 8, 9], 2) };
+    for (i, first) in walks::ROWS.into_iter().enumerate() {
+        out.extend(walks::ROWS[i..].iter().map(|second| broken(*second, broken(first, accepted))));
+    }
+    for (i, row) in descriptions::ROWS.into_iter().enumerate() {
+        let ways = (0..).map(|index| {
+            let mut request = accepted;
+            row(&mut Chance::new(SEED, 0, index), &mut request.description);
+            request
+        });
+        let own = walks::ROWS[i % walks::ROWS.len()];
+        let with_words = ways.filter(|request| words(request).is_some()).take(1);
+        out.extend(with_words.flat_map(|request| [request, broken(own, request)]));
+    }
+    // What 32 bits would cut to a number within its limits.
+    let cut: [fn(&mut Request); 3] =
+        [|r| r.description[PERIOD] += 1 << 32, |r| r.whole[3] += 1 << 32, |r| r.depth += 1 << 32];
+    out.extend(cut.map(|row| broken(row, accepted)));
+}
+
+fn chances(out: &mut Vec<Request>) {
+    let requests = (0..).map(|index| {
+        let c = &mut Chance::new(SEED, 1, index);
+        let d = descriptions::accepted(c);
+        cases::about(c, Call::Walk, d)
+    });
+    out.extend(requests.filter(|request| request.table <= LONGEST && words(request).is_some()).take(CHANCES));
+}
+
+/// What a walk takes, as words; nothing where a number has none.
+fn words(request: &Request) -> Option<Vec<u64>> {
+    let numbers = request.description.iter().chain(&request.whole).chain([&request.depth]);
+    numbers.map(|n| whole((*n).into())).chain([whole(request.table as i128)]).collect()
+}
+
+/// The record of a walk; nothing where it has none.
+fn record(request: &Request) -> Option<Vec<u8>> {
+    let Answer::Walked(walked) = walk::answer(request) else { return None };
+    let mut words = words(request).filter(|_| request.table <= LONGEST)?;
+    words.push(whole(walked.status.into())?);
+    let mut bytes: Vec<u8> = words.iter().flat_map(|word| word.to_le_bytes()).collect();
+    bytes.extend(walked.table);
+    bytes.resize(bytes.len().next_multiple_of(8), 0);
+    Some(bytes)
+}
+
+fn requests() -> Vec<Request> {
+    let mut out = Vec::new();
+    for add in [constants, ramps, extremes, rooms, refusals, chances] {
+        add(&mut out);
+    }
+    out
+}
+
+/// The list.
+pub fn list() -> Vec<u8> {
+    requests().iter().filter_map(record).flatten().collect()
+}
+
+#[cfg(test)]
+mod tests {
+    use super::*;
+    use std::collections::BTreeMap;
+
+    #[test]
+    fn every_status_and_depth_comes_up() {
+        if !reference::AT_HAND {
+            return;
+        }
+        let (mut statuses, mut depths) = (BTreeMap::<u32, u32>::new(), BTreeMap::<i64, u32>::new());
+        for request in requests() {
+            assert!(record(&request).is_some(), "{request}");
+            let number = walk::answer(&request).refused().unwrap_or(0);
+            *statuses.entry(number).or_default() += 1;
+            if number == 0 {
+                *depths.entry(request.depth).or_default() += 1;
+            }
+        }
+        for number in [0, 1, 2, 3, 4, 5, 11, 12, 13] {
+            assert!(statuses.get(&number) > Some(&1), "{number}: {statuses:?}");
+        }
+        for depth in (0..8).chain([24]) {
+            assert!(depths.get(&depth) > Some(&5), "{depth}: {depths:?}");
+        }
+    }
+
+    #[test]
+    fn a_record_is_words_and_then_the_table() {
+        if !reference::AT_HAND {
+            return;
+        }
+        let request = Request { table: 97, ..exact(constant(10240, 2048), [0, 0, 0, 1024, 1024, 1024], 1) };
+        let record = record(&request).unwrap();
+        let Answer::Walked(walked) = walk::answer(&request) else { panic!("a walk's answer") };
+        let word = |i: usize| u64::from_le_bytes(record[8 * i..][..8].try_into().unwrap()) as i64 - (1 << 62);
+        assert_eq!([0, 21, 24, 25, 26].map(word), [10240, 1024, 1, 97, 0]);
+        assert_eq!(record[27 * 8..], [walked.table, vec![0; 7]].concat());
+        assert!(super::record(&Request { table: LONGEST + 1, ..request }).is_none());
+    }
+}

@@ -1,0 +1,152 @@
+//! Walks by chance: boxes of every size, depths that are affordable, and tables about the room that the cells want.
+
+use crate::chance::Chance;
+use crate::entries::*;
+use crate::{specials, walk};
+use request::{Request, SLOT};
+
+/// The cells of a tree that is walked as deep as it goes.
+const FEW: u64 = 4096;
+
+/// Mostly a part of the period, which is where cells of all three states stand side by side.
+fn span(c: &mut Chance, period: i64) -> i64 {
+    match c.below(8) {
+        0 => c.between(1, 4),
+        1 => 1 << c.below(22),
+        2 => c.any_length(2 * TICKS),
+        3 => period,
+        4 => period / c.one_of(&[2, 4, 8, 16, 32]),
+        _ => c.between(1, 1 + period / 2),
+    }
+}
+
+/// A box in order: half of them cubes or nearly, so that spans tie.
+fn bounds(c: &mut Chance, request: &Request) -> [i64; 6] {
+    let d = &request.description;
+    let period = d[PERIOD].clamp(1, TICKS);
+    let cube = span(c, period);
+    let like = c.below(4);
+    let mut out = [0; 6];
+    for i in 0..3 {
+        let span = match like {
+            0 => cube,
+            1 => cube + c.between(-1, 1),
+            _ => span(c, period),
+        };
+        let span = span.clamp(1, 2 * TICKS);
+        let low = match c.below(4) {
+            0 => c.one_of(&[d[FROM + i], d[TO + i]]).clamp(-TICKS, TICKS) - c.between(0, span),
+            1 => c.one_of(&[-TICKS, TICKS - span, 0, -span]),
+            _ => c.any_length(TICKS) * c.sign(),
+        };
+        out[i] = low.clamp(-TICKS, TICKS - span);
+        out[3 + i] = out[i] + span;
+    }
+    out
+}
+
+/// A span below 1, or an entry beyond its limits.
+fn damage(c: &mut Chance, bounds: &mut [i64; 6]) {
+    let i = c.below(3) as usize;
+    match c.below(3) {
+        0 => bounds[3 + i] = bounds[i],
+        1 => bounds.swap(i, 3 + i),
+        _ => bounds[i + 3 * c.below(2) as usize] = c.one_of(&specials::whole()),
+    }
+}
+
+/// Most trees have at most 2^8 cells, and a few go to depth 12; a box of few tick cubes is walked to the end.
+fn depth(c: &mut Chance, request: &Request) -> i64 {
+    match c.below(16) {
+        0 => c.one_of(&[-1, 25, i64::MIN, i64::MAX, -TICKS, 1 << 32]),
+        1 if c.once_in(4) => c.between(9, 12),
+        2 | 3 if walk::most_cells(&Request { depth: 24, ..*request }) <= FEW => c.between(9, 24),
+        _ => c.between(0, 8),
+    }
+}
+
+/// A table about the length that the walk wants; any where it is refused before it is counted.
+fn table(c: &mut Chance, request: &Request) -> usize {
+    let cells = walk::cells(request).unwrap_or(1);
+    let wanted = (cells as usize + 1) * SLOT;
+    match c.below(10) {
+        0 => c.below(64) as usize,
+        1 => wanted - SLOT,
+        2 => wanted - 1,
+        3 | 4 => wanted,
+        5 => wanted + 1 + c.below(31) as usize,
+        6 => wanted + SLOT,
+        7 => c.below(2 * wanted as u64) as usize,
+        _ => wanted + c.below(2048) as usize,
+    }
+}
+
+/// Gives a request about a description its box, depth and table.
+pub fn set(c: &mut Chance, request: &mut Request) {
+    request.whole = bounds(c, request);
+    if c.once_in(12) {
+        damage(c, &mut request.whole);
+    }
+    request.depth = depth(c, request);
+    request.table = table(c, request);
+}
+
+/// One way to break each row of the refusal table that is the walk's own, in its order; row 1 by the box.
+pub const ROWS: [fn(&mut Request); 7] = [
+    |r| r.whole[4] = TICKS + 1,
+    |r| r.whole[3] = r.whole[0],
+    |r| r.whole.swap(2, 5),
+    |r| r.depth = -1,
+    |r| r.depth = 25,
+    |r| r.table = 63,
+    |r| r.table = 0,
+];
+
+/// Depths and lengths of a table at their limits.
+pub fn systematic(quiet: &Request, out: &mut Vec<Request>) {
+    for depth in [i64::MIN, -1, 0, 1, 2, 3, 8, 24, 25, i64::MAX] {
+        let cells = walk::cells(&Request { depth, ..*quiet }).unwrap_or(1) as usize;
+        for slots in [0, 1, 2, 3, cells, cells + 1, cells + 2] {
+            for more in [0, 1, 16, 31] {
+                out.push(Request { depth, table: slots * SLOT + more, ..*quiet });
+            }
+        }
+    }
+}
+
+#[cfg(test)]
+mod tests {
+    use super::*;
+    use crate::{added, cases};
+    use request::Call;
+    use std::collections::BTreeMap;
+
+    #[test]
+    fn walks_are_affordable() {
+        for index in 0..20_000 {
+            let c = &mut Chance::new(9, 0, index);
+            let mut request = Request::new(Call::Walk, PLAIN);
+            request.whole = bounds(c, &request);
+            request.depth = depth(c, &request);
+            assert!(walk::most_cells(&request) <= 4096, "{request}");
+        }
+    }
+
+    /// Every refusal and every kind of table comes up.
+    #[test]
+    fn every_refusal_comes_up() {
+        if !reference::AT_HAND {
+            return;
+        }
+        let mut seen = BTreeMap::<u32, u32>::new();
+        for index in 0..1_000 {
+            let request = cases::by_chance(Call::Walk, 1, index);
+            let number = crate::original::answer(&request).refused().unwrap_or(0);
+            assert!(number == 13 || added::refusal(&request).unwrap_or(0) == number);
+            *seen.entry(number).or_default() += 1;
+        }
+        for number in [0, 1, 2, 3, 4, 5, 11, 12, 13] {
+            assert!(seen.get(&number) > Some(&5), "{number}: {seen:?}");
+        }
+    }
+}
