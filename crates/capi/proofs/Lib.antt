@@ -1,4 +1,6 @@
--- What the proofs of the exports cite. Assumes nothing.
+-- What the proofs of the exports cite, and what the exports say of each other. Assumes nothing.
 mod LengthLaws
 mod NumberLaws
 mod AnswerLaws
+-- where the walk and the public `box_state` meet
+pub mod CellLaws

@@ -1,12 +1,12 @@
 -- From a line's numbers to the walk, and from the walk to what is printed. Assumes nothing.
-use mathlib.Core.Path.{_≡_, refl, sym, ap, _∙_, subst⁻¹}
+use mathlib.Core.Path.{_≡_, refl, sym, ap, _∙_}
 use mathlib.Core.Bool.{true, false}
 use mathlib.Core.List.{List, [], _∷_}
 use Prim.Native.Nat.{ℕ, _^_, _≤_, _<_}
-use native.Mathlib.Nat.{min-le-right}
 use native.Mathlib.Omega.{arith}
 use lib.IntN.{ℤ}
-use lib.ListN.{length, take, length-take, replicate, length-replicate}
+use lib.ListN.{length, replicate, length-replicate}
+use lib.Seq.{sets}
 use lib.Signed.{mag}
 use mir.Syntax.{w64}
 use mir.Val.{toZ, ofZ}
@@ -64,14 +64,9 @@ module _ (ns : List ℤ) {t : List ℕ} {n : ℕ} (table : t ≡ freshTable) (nu
     pub listing-small : length (listing u) ≤ 131072
     listing-small = omega (arith, ap length listing-is, fits ns (sym same ∙ none))
 
--- a buffer whose first r bytes are a text has any equal text there
-pub printed : {r : ℕ} {front x y : List ℕ} → x ≡ y → (front ≡ x) × (r ≡ length x) → (front ≡ y) × (r ≡ length y)
-printed e p = (p .0 ∙ e, p .1 ∙ ap length e)
-
-pub front-of : (r : ℕ) (out : List ℕ) {text : List ℕ} → (take r out ≡ text) × (r ≡ length text) → (take r out ≡ text) × ((r ≡ length text) × Front r out)
-front-of r out p =
-    let counted = p .1 ∙ ap length (sym (p .0)) in
-    (p .0, (p .1, (subst⁻¹ (λ (n : ℕ). n ≤ length out) (counted ∙ length-take r out) (min-le-right r (length out)), counted)))
+-- a buffer with a text at its front has any equal text there
+pub printed : (l : List ℕ) {out x y : List ℕ} {r : ℕ} → x ≡ y → (out ≡ sets l 0 x) × ((r ≡ length x) × Front r out) → (out ≡ sets l 0 y) × ((r ≡ length y) × Front r out)
+printed l e p = (p .0 ∙ ap (sets l 0) e, (p .1 .0 ∙ ap length e, p .1 .1))
 
 pub no-line : (t : List ℕ) {line : Line} → line ≡ lineOf t → line .ok ≡ false → refusedText 14 ≡ cellsText t
 unfolding cellsText

@@ -1,15 +1,18 @@
 -- Lines that are read and lines that are not, numbers in decimal, and document 01's listing, worked by computation. Assumes nothing.
-use mathlib.Core.Path.{_≡_, refl, _∙_}
+use mathlib.Core.Path.{_≡_, refl, ap, _∙_}
 use mathlib.Core.Bool.{true}
 use mathlib.Core.List.{List, [], _∷_, _++_}
 use Prim.Native.Nat.{ℕ}
+use native.Mathlib.Omega.{arith}
 use lib.IntN.{ℤ, pos, negsuc}
+use lib.ListN.{getD}
 use Rattle.table.specs.Table.{Mark}
 use Rattle.table.specs.Told.{Told}
 use Rattle.text.specs.Ascii.{ascii}
 use Rattle.text.specs.Line.{digitsAt, numberAt, lineFrom, refusedLine, lineOf}
 use Rattle.text.specs.Decimal.{digitsWithin, decimal, signedDecimal}
 use Rattle.text.specs.Listing.{refusedText, headLine, cornerText, cellLine, cellLines, listing}
+use Rattle.text.specs.Appended.{Appended}
 use Rattle.text.proofs.FitLaws.{listing-told}
 
 abbrev numbers : List ℕ → List ℤ
@@ -85,6 +88,13 @@ below-zero = refl
 refused-13 : refusedText 13 ≡ ascii "refused 13\n"
 unfolding refusedText decimal digitsWithin
 refused-13 = refl
+
+-- ---- how it is put: a writer that touches a byte behind its text breaks its promise
+byte-behind : Appended (0 ∷ 0 ∷ []) 0 (7 ∷ []) (7 ∷ 255 ∷ []) 1 → ⊥
+byte-behind a = differ (ap (λ (l : List ℕ). getD l 1 0) (a .written))
+  where
+    differ : _≡_ {A = ℕ} 255 0 → ⊥
+    differ e = omega arith
 
 -- document 01's cells
 cells : List Mark

@@ -5,7 +5,7 @@ pub mod FitLaws
 pub mod LengthLaws
 -- what the functions' proofs cite
 mod LineLaws
-mod AppendLaws
+pub mod AppendLaws
 mod DecimalLaws
 mod ListingLaws
 mod CellsLaws

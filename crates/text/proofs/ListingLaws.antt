@@ -10,8 +10,12 @@ use Rattle.table.specs.Table.{Mark}
 use Rattle.table.specs.Read.{u32At, firstIn, cellsIn, evaluatedIn, solidIn, openIn, markIn, chain}
 use Rattle.table.proofs.ReadLaws.{mark-is, chain-end, chain-step}
 use Rattle.text.specs.Decimal.{decimal, signedDecimal}
-use Rattle.text.specs.Listing.{spaced, headLine, cornerText, cellLine, cellLines, listing}
+use Rattle.text.specs.Listing.{spaced, refusedText, headLine, cornerText, cellLine, cellLines, listing}
 use Rattle.text.specs.Appended.{cornerAt}
+
+pub length-refused : (n : ℕ) → length (refusedText n) ≡ length (decimal n) + 9
+unfolding refusedText
+length-refused n = simp length-append (omega arith)
 
 pub head-is : (a b c d : ℕ) → headLine a b c d ≡ decimal a ++ spaced (decimal b) ++ spaced (decimal c) ++ spaced (decimal d) ++ (10 ∷ [])
 unfolding headLine

@@ -1,14 +1,16 @@
--- HOW THE PRINTING FUNCTIONS WRITE: a text goes behind what is written already. Definitions only; assumes nothing.
+-- HOW THE PRINTING FUNCTIONS WRITE: a text goes behind what is written already, and every other byte stays as it was. Definitions only; assumes
+-- nothing.
 use mathlib.Core.Path.{_≡_}
-use mathlib.Core.List.{List, _++_}
+use mathlib.Core.List.{List}
 use Prim.Native.Nat.{ℕ, _+_, _*_, _≤_}
 use lib.ListN.{length, take}
+use lib.Seq.{sets}
 use Rattle.table.specs.Read.{i32At}
 use Rattle.text.specs.Listing.{cornerText}
 
--- of a buffer's bytes before and after: the first `at` stand as they stood, the text stands behind them and ends before `next`
+-- of a buffer's bytes before and after: the text stands from `at` on and ends before `next`; all others stand as they stood
 pub record Appended (before : List ℕ) (at : ℕ) (text after : List ℕ) (next : ℕ) : Type 0 where
-  pub written : take next after ≡ take at before ++ text
+  pub written : after ≡ sets before at text
   pub next-is : next ≡ at + length text
 
 -- the lows or the highs of a slot, which start at a place of it

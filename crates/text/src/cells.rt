@@ -1,7 +1,8 @@
 // Program `cells` from the bytes that it reads to the bytes that it prints.
 ghost use mathlib.Core.Path.{_≡_};
 ghost use Prim.Native.Nat.{_+_, _≤_};
-ghost use lib.ListN.{length, take};
+ghost use lib.ListN.{length};
+ghost use lib.Seq.{sets};
 ghost use Rattle.text.specs.Appended.{Front};
 ghost use Rattle.text.specs.Cells.{threeFrom, described, numberOf, tableOf, walkedText, cellsText};
 use crate::parse::parse;
@@ -60,8 +61,9 @@ fn walk_line(numbers: [i64; 17], table: &mut [u8]) -> u32
 
 // What is printed of a line's numbers.
 fn walked(numbers: [i64; 17], out: &mut [u8; 131072]) -> usize
-    ensures text { λ r. ⌜ take r (now (out .exit)) ≡ walkedText numbers ⌝ }
+    ensures text { λ _. ⌜ now (out .exit) ≡ sets (now (out .entry)) 0 (walkedText numbers) ⌝ }
     ensures end { λ r. ⌜ r ≡ length (walkedText numbers) ⌝ }
+    ensures front { λ r. ⌜ Front r (now (out .exit)) ⌝ }
 {
     let mut table = [0u8; 65536];
     let number = walk_line(numbers, &mut table);
@@ -71,9 +73,9 @@ fn walked(numbers: [i64; 17], out: &mut [u8; 131072]) -> usize
     put_listing(&table, out)
 }
 
-// Puts what is printed of an input at the front of `out`, and answers its length.
+// Puts what is printed of an input at the front of `out`, and answers its length. The bytes behind it stay as they were.
 pub fn cells(input: &[u8], out: &mut [u8; 131072]) -> usize
-    ensures text { λ r. ⌜ take r (now (out .exit)) ≡ cellsText (now (input .entry)) ⌝ }
+    ensures text { λ _. ⌜ now (out .exit) ≡ sets (now (out .entry)) 0 (cellsText (now (input .entry))) ⌝ }
     ensures end { λ r. ⌜ r ≡ length (cellsText (now (input .entry))) ⌝ }
     ensures front { λ r. ⌜ Front r (now (out .exit)) ⌝ }
 {

@@ -1,13 +1,14 @@
 // The text that program `cells` prints, put into lent bytes. A function that has `at` puts its text behind the first `at` bytes and answers
-// the index after it.
+// the index after it; every other byte stays as it was.
 ghost use mathlib.Core.Path.{_≡_};
 ghost use mathlib.Core.List.{[], _∷_};
 ghost use Prim.Native.Nat.{_+_, _*_, _≤_, _<_};
 ghost use lib.IntN.{natAbs};
-ghost use lib.ListN.{length, take};
+ghost use lib.ListN.{length};
+ghost use lib.Seq.{sets};
 ghost use Rattle.exact.specs.Within.{Within};
 ghost use Rattle.table.specs.Read.{u32At, i32At, markIn, chain};
-ghost use Rattle.text.specs.Appended.{Appended, cornerAt};
+ghost use Rattle.text.specs.Appended.{Appended, Front, cornerAt};
 ghost use Rattle.text.specs.Decimal.{decimal, signedDecimal};
 ghost use Rattle.text.specs.Listing.{spaced, refusedText, headLine, cellLine, cellLines, listing};
 use crate::ascii::MINUS;
@@ -174,8 +175,9 @@ fn put_head(out: &mut [u8], cells: usize, evaluated: usize, solid: usize, vacant
 // What is printed of a table.
 pub fn put_listing(table: &[u8; 65536], out: &mut [u8; 131072]) -> usize
     requires { ⌜ length (listing (now table)) ≤ 131072 ⌝ }
-    ensures text { λ r. ⌜ take r (now (out .exit)) ≡ listing (now (table .entry)) ⌝ }
+    ensures text { λ _. ⌜ now (out .exit) ≡ sets (now (out .entry)) 0 (listing (now (table .entry))) ⌝ }
     ensures end { λ r. ⌜ r ≡ length (listing (now (table .entry))) ⌝ }
+    ensures front { λ r. ⌜ Front r (now (out .exit)) ⌝ }
 {
     let cells = u32_at(table, 4);
     let head = put_head(
@@ -190,8 +192,9 @@ pub fn put_listing(table: &[u8; 65536], out: &mut [u8; 131072]) -> usize
 
 // What is printed of a refusal.
 pub fn put_refused(out: &mut [u8; 131072], n: u32) -> usize
-    ensures text { λ r. ⌜ take r (now (out .exit)) ≡ refusedText n ⌝ }
+    ensures text { λ _. ⌜ now (out .exit) ≡ sets (now (out .entry)) 0 (refusedText n) ⌝ }
     ensures end { λ r. ⌜ r ≡ length (refusedText n) ⌝ }
+    ensures front { λ r. ⌜ Front r (now (out .exit)) ⌝ }
 {
     let word = put_text(out, 0, b"refused");
     let end = put_spaced(out, word, n as usize);

@@ -4,4 +4,6 @@ mod StepLaws
 mod MarkLaws
 mod CallLaws
 pub mod DemandLaws
+-- what demand 3 supposes is what no refusal leaves, both ways
+pub mod SupposedLaws
 pub mod TableLaws

@@ -6,7 +6,7 @@ ghost use lib.IntN.{natAbs};
 ghost use lib.ListN.{length};
 ghost use Rattle.tree.specs.Box.{Good, boxOf, boxFrom};
 ghost use Rattle.walk.specs.Walk.{spans, depths, entryRefusal, roomRefusal, roomTable, walkNumber, walkTable};
-ghost use Rattle.walk.specs.Demand.{Demand};
+ghost use Rattle.walk.specs.Demand.{Supposed, Demand};
 use crate::Node;
 use crate::Parts;
 use crate::fill::fill;
@@ -88,7 +88,7 @@ pub fn walk(
 ) -> u32
     ensures answer { λ r. ⌜ r ≡ walkNumber description lo hi depth (length (now (table .entry))) ⌝ }
     ensures left { λ _. ⌜ now (table .exit) ≡ walkTable description lo hi depth (now (table .entry)) ⌝ }
-    ensures demand { λ r. ⌜ (r ≡ 0 → Demand description (boxFrom lo hi) (natAbs depth) (now (table .exit))) ⌝ }
+    ensures demand { λ _. ⌜ (Supposed description lo hi depth (length (now (table .entry))) → Demand description (boxFrom lo hi) (natAbs depth) (now (table .exit))) ⌝ }
 {
     let made = Gyroid::certified(description);
     let number = entries(made.refusal, lo, hi, depth);

@@ -1,14 +1,14 @@
 -- A refusal of the text, or what is printed of its numbers. Assumes nothing.
 use borrow.Author.Tests.{not-true, not-false}
-use Rattle.text.proofs.CellsLaws.{front-of, printed, no-line, a-line}
+use Rattle.text.proofs.CellsLaws.{printed, no-line, a-line}
 use Rattle.text.proofs.cells.cells.Statement.{statement}
 use Rattle.text.proofs.cells.cells.Tie as tie
 
 returns : tie.Need-returns
-returns c = front-of _ _ (printed (no-line _ (c .before .before .before .before .parse .ensures) (not-true _ (c .before .before .if1 .taken))) (c .put-refused .ensures))
+returns c = printed (c .before .before .before .before .before .before .args .out .now) (no-line _ (c .before .before .before .before .parse .ensures) (not-true _ (c .before .before .if1 .taken))) (c .put-refused .ensures)
 
 returns-2 : tie.Need-returns-2
-returns-2 c = front-of _ _ (printed (a-line _ (c .before .before .before .before .before .parse .ensures) (not-false _ (c .before .before .before .if1 .left))) (c .walked .ensures))
+returns-2 c = printed (c .before .before .before .before .before .before .before .args .out .now) (a-line _ (c .before .before .before .before .before .parse .ensures) (not-false _ (c .before .before .before .if1 .left))) (c .walked .ensures)
 
 pub cells-spec : {M : Type 1} → statement M
 cells-spec =

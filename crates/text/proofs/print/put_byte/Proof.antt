@@ -1,5 +1,4 @@
 -- `text::print::put_byte` meets its contract. Assumes nothing.
-use native.Mathlib.Omega.{arith}
 use borrow.Author.Needs.{needs}
 use Rattle.text.proofs.AppendLaws.{byte-appended}
 use Rattle.text.proofs.print.put_byte.Statement.{statement}
@@ -18,7 +17,7 @@ same-length : tie.Need-same-length
 same-length c = search needs
 
 returns : tie.Need-returns
-returns c = byte-appended (c .args .out .now) (c .args .at) (c .args .b) (omega arith)
+returns c = byte-appended (c .args .out .now) (c .args .at) (c .args .b)
 
 pub put-byte-spec : {M : Type 1} → statement M
 put-byte-spec = tie.close (tie.spec cast-out slice-write-out add-result same-length returns)

@@ -1,11 +1,12 @@
 -- `text::print::put_cells` meets its contract. The loop's invariant: what is put, with the lines of the cells that are left, is what is asked.
 -- Assumes nothing.
 use mathlib.Core.Path.{_≡_, refl, sym, ap, _∙_}
-use mathlib.Core.List.{List, _++_, append-nil}
+use mathlib.Core.List.{List}
 use Prim.Native.Nat.{ℕ, _+_, _-_}
 use native.Mathlib.Omega.{arith}
 use borrow.Author.Needs.{needs}
-use lib.ListN.{length, take}
+use lib.ListN.{length}
+use lib.Seq.{sets}
 use Rattle.table.specs.Read.{chain}
 use Rattle.text.specs.Listing.{cellLines}
 use Rattle.text.proofs.AppendLaws.{still-to-come}
@@ -16,7 +17,7 @@ use Rattle.text.proofs.print.put_cells.Tie as tie
 abbrev Inv-loop : tie.InvT-loop
 Inv-loop table first cells out₀ from at₀ slot₀ left₀ out at slot left =
     (length out ≡ length out₀)
-    × (take at out ++ cellLines (chain left table slot) ≡ take from out₀ ++ cellLines (chain cells table first))
+    × (sets out at (cellLines (chain left table slot)) ≡ sets out₀ from (cellLines (chain cells table first)))
     × (at + length (cellLines (chain left table slot)) ≡ from + length (cellLines (chain cells table first)))
 
 abbrev μ-loop : tie.MeasureT-loop
@@ -57,7 +58,7 @@ loop-again c =
     let rest = cellLines (chain (l .loop .left - 1) t (c .u32-of .result)) in (
       p .put-cell .kept .1 .1 .0 ∙ l .loop .inv .0,
       still-to-come _ rest (p .put-cell .ensures)
-          ∙ ap (λ (x : List ℕ). take (l .loop .at) (l .loop .out) ++ x) (sym (cells-step (l .loop .left) t (l .loop .slot) h (c .u32-of .ensures .0)))
+          ∙ ap (sets (l .loop .out) (l .loop .at)) (sym (cells-step (l .loop .left) t (l .loop .slot) h (c .u32-of .ensures .0)))
           ∙ l .loop .inv .1,
       omega (arith, p .put-cell .ensures .next-is, l .loop .inv .2, length-cells-step (l .loop .left) t (l .loop .slot) h (c .u32-of .ensures .0)),
     )
@@ -71,7 +72,7 @@ returns c =
     let start = l .before .before .before in
     let none = cells-end (l .loop .left) (start .args .table .now) (l .loop .slot) (c .loop-test .left) in
     record {
-      written = sym (append-nil (take (l .loop .at) (l .loop .out))) ∙ ap (λ (x : List ℕ). take (l .loop .at) (l .loop .out) ++ x) (sym none) ∙ l .loop .inv .1;
+      written = ap (sets (l .loop .out) (l .loop .at)) (sym none) ∙ l .loop .inv .1;
       next-is = omega (arith, l .loop .inv .2, ap length none);
     }
 

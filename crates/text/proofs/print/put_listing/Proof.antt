@@ -2,8 +2,10 @@
 use mathlib.Core.Path.{refl, sym, ap, _∙_}
 use native.Mathlib.Nat.{zero-add}
 use lib.ListN.{length}
+use lib.Seq.{sets}
 use native.Mathlib.Omega.{arith}
-use Rattle.text.proofs.AppendLaws.{then-appended, from-start}
+use Rattle.text.specs.Listing.{listing}
+use Rattle.text.proofs.AppendLaws.{then-appended, at-front}
 use Rattle.text.proofs.ListingLaws.{listing-is, length-listing}
 use borrow.Author.Needs.{needs}
 use Rattle.text.proofs.print.put_listing.Statement.{statement}
@@ -47,7 +49,10 @@ returns c =
     let start = c .before .before .before .before .before .before .before .before .before .before .before .before .before .before .before in
     let a = then-appended _ _ (c .before .before .before .before .before .put-head .ensures) (c .put-cells .ensures) in
     let e = listing-is (start .args .table .now) (c .before .before .u32-at3 .ensures .0) (c .before .before .before .before .before .before .before .before .before .before .before .before .before .u32-at .ensures .0) (c .before .before .before .before .before .before .before .before .before .before .u32-at2 .ensures .0) (c .before .before .before .before .before .before .before .before .u64-at .ensures) (c .before .before .before .before .before .before .u64-at2 .ensures) in
-    (from-start a ∙ sym e, a .next-is ∙ zero-add _ ∙ ap length (sym e))
+    let l = start .args .out .now in
+    let text = a .written ∙ ap (sets l 0) (sym e) in
+    let end = a .next-is ∙ zero-add _ ∙ ap length (sym e) in
+    (text, (end, at-front l (listing (start .args .table .now)) text end (omega (arith, start .pre))))
 
 pub put-listing-spec : {M : Type 1} → statement M
 put-listing-spec =

@@ -3,8 +3,9 @@ use mathlib.Core.Path.{_∙_}
 use native.Mathlib.Nat.{zero-add}
 use native.Mathlib.Omega.{arith}
 use Rattle.text.specs.Listing.{refusedText}
-use Rattle.text.proofs.AppendLaws.{then-appended, from-start}
+use Rattle.text.proofs.AppendLaws.{then-appended, at-front}
 use Rattle.text.proofs.DecimalLaws.{few-digits}
+use Rattle.text.proofs.ListingLaws.{length-refused}
 use borrow.Author.Needs.{needs}
 use Rattle.text.proofs.print.put_refused.Statement.{statement}
 use Rattle.text.proofs.print.put_refused.Tie as tie
@@ -38,7 +39,9 @@ returns : tie.Need-returns
 unfolding refusedText
 returns c =
     let a = then-appended _ _ (then-appended _ _ (c .before .before .before .before .put-text .ensures) (c .before .before .put-spaced .ensures)) (c .put-byte .ensures) in
-    (from-start a, a .next-is ∙ zero-add _)
+    let start = c .before .before .before .before .before .before .before in
+    let end = a .next-is ∙ zero-add _ in
+    (a .written, (end, at-front (start .args .out .now) (refusedText (start .args .n)) (a .written) end (omega (arith, length-refused (start .args .n), few-digits 9 (start .args .n) (omega arith)))))
 
 pub put-refused-spec : {M : Type 1} → statement M
 put-refused-spec =

@@ -1,32 +1,31 @@
 -- `text::print::put_text` meets its contract. The loop's invariant: the first i bytes of the text are put. Assumes nothing.
-use mathlib.Core.Path.{_≡_, refl, ap, _∙_}
-use mathlib.Core.List.{List, _++_, append-nil, append-assoc}
-use Prim.Native.Nat.{ℕ, suc, _+_, _-_, _≤_, _<_}
-use native.Mathlib.Nat.{add-zero}
+use mathlib.Core.Path.{_≡_, refl, sym, ap, _∙_}
+use mathlib.Core.List.{List, [], _∷_}
+use Prim.Native.Nat.{ℕ, _+_, _-_, _≤_, _<_}
 use native.Mathlib.Numerals.{add-one}
 use native.Mathlib.Omega.{arith}
 use borrow.Author.Needs.{needs}
 use lib.ListN.{length, take, set, getD, length-set}
-use lib.Seq.{take-all, take-suc, take-suc-set}
+use lib.Seq.{sets, take-all, take-suc, length-take-le}
+use Rattle.table.proofs.Stores.{sets-then}
 use Rattle.text.proofs.print.put_text.Statement.{statement}
 use Rattle.text.proofs.print.put_text.Tie as tie
 
 abbrev Inv-loop : tie.InvT-loop
 Inv-loop out₀ at text i₀ out i =
-    (i ≤ length text) × (length out ≡ length out₀) × (take (at + i) out ≡ take at out₀ ++ take i text)
+    (i ≤ length text) × (length out ≡ length out₀) × (out ≡ sets out₀ at (take i text))
 
 abbrev μ-loop : tie.MeasureT-loop
 μ-loop out₀ at text i₀ out i = length text - i
 
 -- one byte more of the text
-more : (out₀ : List ℕ) (at : ℕ) (text out : List ℕ) (i : ℕ) → i < length text → at + i < length out → take (at + i) out ≡ take at out₀ ++ take i text
-    → take (at + (i + 1)) (set out (at + i) (getD text i 0)) ≡ take at out₀ ++ take (i + 1) text
-more out₀ at text out i h k e =
-    let next : at + (i + 1) ≡ suc (at + i) = omega arith in
-    rw (next, take-suc-set out (at + i) (getD text i 0) k, e, append-assoc, add-one i, take-suc text i 0 h)
+more : (out₀ : List ℕ) (at : ℕ) (text out : List ℕ) (i : ℕ) → i < length text → out ≡ sets out₀ at (take i text) → set out (at + i) (getD text i 0) ≡ sets out₀ at (take (i + 1) text)
+more out₀ at text out i h e =
+    sets-then out₀ at (take i text) (getD text i 0 ∷ []) {m = out} {j = at + i} e refl (omega (arith, length-take-le i text (omega arith)))
+    ∙ ap (sets out₀ at) (sym (ap (λ (k : ℕ). take k text) (add-one i) ∙ take-suc text i 0 h))
 
 loop-holds : tie.Need-loop-holds Inv-loop μ-loop
-loop-holds c = (omega arith, refl, rw (add-zero, append-nil))
+loop-holds c = (omega arith, refl, refl)
 
 shared-slice-read-out : tie.Need-shared-slice-read-out Inv-loop μ-loop
 shared-slice-read-out c = search needs
@@ -48,8 +47,7 @@ loop-again c =
     let l = c .before .before in (
       omega arith,
       simp length-set (l .loop .inv .1),
-      more (l .before .args .out .now) (l .before .args .at) (l .before .args .text .now) (l .loop .out) (l .loop .i) (c .before .loop-test .taken)
-          (omega (arith, l .before .pre, l .loop .inv .1, c .before .loop-test .taken)) (l .loop .inv .2),
+      more (l .before .args .out .now) (l .before .args .at) (l .before .args .text .now) (l .loop .out) (l .loop .i) (c .before .loop-test .taken) (l .loop .inv .2),
     )
 
 add-result : tie.Need-add-result Inv-loop μ-loop
@@ -64,7 +62,7 @@ returns c =
     let t = l .before .args .text .now in
     let all : l .loop .i ≡ length t = omega (arith, c .loop-test .left, l .loop .inv .0) in
     record {
-      written = l .loop .inv .2 ∙ ap (λ (x : List ℕ). take (l .before .args .at) (l .before .args .out .now) ++ x) (take-all (l .loop .i) t (omega arith));
+      written = l .loop .inv .2 ∙ ap (sets (l .before .args .out .now) (l .before .args .at)) (take-all (l .loop .i) t (omega arith));
       next-is = ap (λ (k : ℕ). l .before .args .at + k) all;
     }
 

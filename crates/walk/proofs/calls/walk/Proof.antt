@@ -20,6 +20,7 @@ use Rattle.tree.specs.Box.{Box, Good, boxFrom}
 use Rattle.walk.specs.Walk.{entryRefusal, roomRefusal, roomTable}
 use Rattle.walk.proofs.CallLaws.{Entered, entered, walk-refused, walk-ran}
 use Rattle.walk.proofs.DemandLaws.{demand}
+use Rattle.walk.proofs.SupposedLaws.{entry-none, room-none}
 use Rattle.walk.proofs.calls.walk.Statement.{statement}
 use Rattle.walk.proofs.calls.walk.Tie as tie
 
@@ -45,7 +46,7 @@ returns c =
     let s = c .before .before .before .before in
     let n = number (s .args .description) (s .args .lo) (s .args .hi) (s .fits .depth) (c .before .before .certified .ensures) (c .before .entries .ensures) in
     let w = walk-refused (s .args .description) (s .args .lo) (s .args .hi) (s .args .depth) (s .args .table .now) n (c .if1 .taken) in
-    (w .0, (w .1, λ z. absurd (c .if1 .taken z)))
+    (w .0, (w .1, λ h. absurd (c .if1 .taken (n ∙ entry-none (s .args .description) (s .args .lo) (s .args .hi) (s .args .depth) (length (s .args .table .now)) h))))
 
 of-requires : tie.Need-of-requires
 of-requires c κs =
@@ -88,7 +89,7 @@ returns-2 c =
     let r = same-number d lo hi (length (s .args .table .now)) (s .fits .depth) made (o .of .ensures) t (u .run .ensures .0) in
     let left = same-table d lo hi (length (s .args .table .now)) (s .fits .depth) made (o .of .ensures) t (u .run .ensures .1) in
     let w = walk-ran d lo hi (s .args .depth) (s .args .table .now) n none r left in
-    (w .0, (w .1, λ z. demand d (record { none = t .described }) (natAbs (s .args .depth)) (t .depth-most) (boxFrom lo hi) (t .good) (length (s .args .table .now)) (sym r ∙ z) left))
+    (w .0, (w .1, λ h. demand d (record { none = t .described }) (natAbs (s .args .depth)) (t .depth-most) (boxFrom lo hi) (t .good) (length (s .args .table .now)) (room-none d lo hi (s .args .depth) (length (s .args .table .now)) h) left))
 
 pub walk-spec : {M : Type 1} → statement M
 walk-spec =
