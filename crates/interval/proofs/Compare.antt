@@ -2,16 +2,17 @@
 use mathlib.Core.Bool.{Bool, true, false, not, _&&_, _||_, Bool·beq}
 use Prim.Native.Nat.{ℕ, _+_, _*_, _≤_}
 use native.Mathlib.Omega.{arith}
-use mathlib.Core.Path.{_≡_, refl, subst}
+use mathlib.Core.Path.{_≡_, refl, sym, subst}
 use lib.Dec.{T, not-T, eqb, eqb-refl, ltb→lt, nltb→le, eqb→eq}
 use lib.Ieee.{Float, nan, inf, fin, below, level, lt, eq, le, isNan, up, down}
 use lib.Ieee.Scale.{finite}
 use Rattle.exact.specs.Fraction.{_≤F_, _<F_}
 use Rattle.exact.proofs.Choice.{choose}
-use Rattle.exact.proofs.Fraction.{≤F-refl, ≤F-trans, <F-le}
+use Rattle.exact.proofs.Fraction.{≤F-refl, ≤F-trans, <F-le, <F-irrefl}
 use Rattle.interval.specs.Interval.{least, greatest, least4, greatest4}
 use Rattle.interval.specs.Encloses.{value}
 use Rattle.interval.proofs.Signs.{Le, Lt, le-ratio, lt-ratio}
+use Rattle.interval.proofs.Pattern.{finite-real}
 
 -- ---- by sign and size
 lt-sizes : (s t : Bool) (a b : ℕ) → T (below s a t b) → Lt s a t b
@@ -133,6 +134,27 @@ le-is (fin s m e) nan = refl
 le-is (fin s m e) (inf true) = refl
 le-is (fin s m e) (inf false) = refl
 le-is (fin s m e) (fin t n d) = sizes-le s t (m * up e * down d) (n * up d * down e)
+
+-- and so the test of two finite doubles follows from the fractions that they are
+pub real-le : (x y : Float) → T (not (isNan x)) → T (not (isNan y)) → (T (lt y x) → ⊥) → T (le x y)
+real-le x y n m h = subst T (sym (le-is x y)) (go (isNan x) (isNan y) (lt y x) n m h)
+  where
+    go : (a b c : Bool) → T (not a) → T (not b) → (T c → ⊥) → T (not (a || b || c))
+    go true b c p q r = absurd p
+    go false true c p q r = absurd q
+    go false false true p q r = absurd (r tt)
+    go false false false p q r = tt
+
+pub le-real : (x y : Float) → T (le x y) → T (not (isNan x)) × T (not (isNan y))
+le-real x y h = go (isNan x) (isNan y) (lt y x) (subst T (le-is x y) h)
+  where
+    go : (a b c : Bool) → T (not (a || b || c)) → T (not a) × T (not b)
+    go true b c t = absurd t
+    go false true c t = absurd t
+    go false false c t = (tt, tt)
+
+pub value-le : (x y : Float) → T (finite x) → T (finite y) → value x ≤F value y → T (le x y)
+value-le x y f g h = real-le x y (finite-real x f) (finite-real y g) (λ t. <F-irrefl (lt-value y x g f t) h)
 
 -- ---- the lesser and the greater: one of the two, and a bound of both
 module _ (x y : Float) where

@@ -13,6 +13,8 @@ pub mod FloorLaws
 pub mod SeriesLaws
 -- the doubles in order, one rounding, one step
 pub mod Rank
+pub mod Order
+pub mod Ordered
 pub mod InOrder
 mod Signs
 mod Pattern

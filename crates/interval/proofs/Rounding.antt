@@ -96,7 +96,7 @@ pub record Rounds (x : Float) (q : Fraction) : Type 0 where
 pub rounds-fits : {x : Float} {q : Fraction} → Rounds x q → T (fits binary64 x)
 rounds-fits r = subst (λ (v : Float). T (fits binary64 v)) (sym (r .is)) (round-fits binary64 (r .sign) (r .top) (r .bottom))
 
-rounds-quanta : {x : Float} {q : Fraction} (r : Rounds x q) → Quanta x (r .sign) (rounded (r .top) (r .bottom))
+pub rounds-quanta : {x : Float} {q : Fraction} (r : Rounds x q) → Quanta x (r .sign) (rounded (r .top) (r .bottom))
 rounds-quanta r = subst (λ (v : Float). Quanta v (r .sign) (rounded (r .top) (r .bottom))) (sym (r .is)) (round-quanta (r .sign) (r .top) (r .bottom))
 
 rounded-zero : (k c : ℕ) → 0 < c → k ≡ 0 → rounded k c ≡ 0
@@ -124,25 +124,32 @@ module _ (k c l d A B : ℕ) (C : 0 < c) (D : 0 < d) (up : k * d ≤ l * c → A
       let b = none' (no-top l c C (omega arith)) in
       omega arith
 
-scaled : (s t : Bool) (A B Q : ℕ) → Le s A t B → Le s (A * Q) t (B * Q)
+pub scaled : (s t : Bool) (A B Q : ℕ) → Le s A t B → Le s (A * Q) t (B * Q)
 scaled false false A B Q h = let r = mul-le-mul-right Q h in omega arith
 scaled true true A B Q h = let r = mul-le-mul-right Q h in omega arith
 scaled true false A B Q h = omega arith
 scaled false true A B Q h = let r = mul-le-mul-right Q h in omega arith
 
--- "rounding is monotone"
-pub rounds-mono : {x y : Float} {p q : Fraction} → Rounds x p → Rounds y q → T (finite x) → T (finite y) → p ≤F q → value x ≤F value y
-rounds-mono {x} {y} {p} {q} a b fx fy h =
+-- "rounding is monotone", by sign and size in quanta
+pub rounds-order : {x y : Float} {p q : Fraction} (a : Rounds x p) (b : Rounds y q) → p ≤F q
+    → Le (a .sign) (rounded (a .top) (a .bottom)) (b .sign) (rounded (b .top) (b .bottom))
+rounds-order {x} {y} {p} {q} a b h =
     let k = a .top in
     let c = a .bottom in
     let l = b .top in
     let d = b .bottom in
-    let A = rounded k c in
-    let B = rounded l d in
-    let g = order-kept k c l d A B (a .bottom-pos) (b .bottom-pos) (rounded-mono k c l d (a .bottom-pos) (b .bottom-pos)) (rounded-mono l d k c (b .bottom-pos) (a .bottom-pos)) (rounded-zero k c (a .bottom-pos)) (rounded-zero l d (b .bottom-pos))
-    (a .sign) (b .sign) (ratio-le (a .sign) (b .sign) k c l d (≤F-trans (≈F-le (a .same)) (≤F-trans h (≈F-ge (b .same))))) in
+    let C = a .bottom-pos in
+    let D = b .bottom-pos in
+    order-kept k c l d (rounded k c) (rounded l d) C D (rounded-mono k c l d C D) (rounded-mono l d k c D C) (rounded-zero k c C) (rounded-zero l d D)
+    (a .sign) (b .sign) (ratio-le (a .sign) (b .sign) k c l d (≤F-trans (≈F-le (a .same)) (≤F-trans h (≈F-ge (b .same)))))
+
+-- and as fractions
+pub rounds-mono : {x y : Float} {p q : Fraction} → Rounds x p → Rounds y q → T (finite x) → T (finite y) → p ≤F q → value x ≤F value y
+rounds-mono {x} {y} {p} {q} a b fx fy h =
+    let A = rounded (a .top) (a .bottom) in
+    let B = rounded (b .top) (b .bottom) in
     ≤F-trans (≈F-le (quanta-value x (a .sign) A fx (rounds-quanta a)))
-    (≤F-trans (le-ratio (a .sign) (b .sign) A quantum B quantum (scaled (a .sign) (b .sign) A B quantum g))
+    (≤F-trans (le-ratio (a .sign) (b .sign) A quantum B quantum (scaled (a .sign) (b .sign) A B quantum (rounds-order a b h)))
     (≈F-ge (quanta-value y (b .sign) B fy (rounds-quanta b))))
 
 -- "every double rounds to itself", as a number

@@ -1,9 +1,14 @@
--- "An interval is two doubles": its operations, each an expression of IEEE 754 operations on binary64. Document 01's words stand in quotes.
--- Definitions only; assumes nothing.
-use mathlib.Core.Bool.{cond}
-use lib.Ieee.{Float, binary64, neg, add, sub, mul, div, lt}
+-- "An interval is two doubles, low ≤ high": its operations, each an expression of IEEE 754 operations on binary64. Document 01's words stand
+-- in quotes. Definitions only; assumes nothing.
+use mathlib.Core.Bool.{Bool, cond}
+use lib.Ieee.{Float, binary64, neg, add, sub, mul, div, lt, le}
 use Rattle.interval.specs.declared.Interval.{Interval}
 use Rattle.interval.specs.Step.{b64, nextUp, nextDown}
+
+-- "low ≤ high". It fails where an end is a NaN or the low one is above the high one, and nowhere else (`le-is`); every operation keeps it
+-- (proofs/Ordered.antt)
+abbrev pub ordered : Interval → Bool
+ordered x = le (x .lo) (x .hi)
 
 -- an interval that is one double
 abbrev pub point : Float → Interval
