@@ -21,7 +21,7 @@ use Rattle.grade.proofs.PieceLaws.{exact-piece-says}
 use Rattle.grade.proofs.RefusalLaws.{none-first, none-last, kept, neither}
 use Rattle.gyroid.specs.declared.Description.{Description}
 use Rattle.gyroid.specs.declared.Residual.{Residual}
-use Rattle.gyroid.specs.Refusals.{refusal, between}
+use Rattle.gyroid.specs.Refusals.{refusal, endsWithin}
 use Rattle.gyroid.specs.Leaf.{leaf}
 use Rattle.gyroid.specs.Residual.{residual, boxState}
 use Rattle.gyroid.specs.Admitted.{tickBox, Holds, Settles}
@@ -78,7 +78,7 @@ state-settled d w e = λ lo hi l h q. subst⁻¹ (λ (x : List Interval). Settle
 pub fast-fits : (d : Description) → refusal d ≡ 0 → FastFits (leaf d)
 fast-fits d e = let p = accepted d e .0 in record { turns = turns-small d p; grade = subst⁻¹ DefFits (leaf-grade d) (p .fits) }
 
-near-point : (x : Float) → T (between farthest (point x)) → Small 40 x
+near-point : (x : Float) → T (endsWithin farthest (point x)) → Small 40 x
 unfolding ofBits neg
 near-point x t =
     let (h, _) = both (le (neg farthest) x && le x farthest && le (neg farthest) x) (le x farthest) t in
@@ -91,6 +91,6 @@ unfolding boxRefusal allNear
 near p e =
     let (_, f) = none-first (not (allOrdered (pointBox p))) 8 (refused (not (allNear (pointBox p))) 10) e in
     let t = kept (allNear (pointBox p)) (none-last (not (allNear (pointBox p))) 9 f) in
-    let (h, z) = both (between farthest (point (pointAt p 0)) && between farthest (point (pointAt p 1))) (between farthest (point (pointAt p 2))) t in
-    let (x, y) = both (between farthest (point (pointAt p 0))) (between farthest (point (pointAt p 1))) h in
+    let (h, z) = both (endsWithin farthest (point (pointAt p 0)) && endsWithin farthest (point (pointAt p 1))) (endsWithin farthest (point (pointAt p 2))) t in
+    let (x, y) = both (endsWithin farthest (point (pointAt p 0))) (endsWithin farthest (point (pointAt p 1))) h in
     record { x = near-point (pointAt p 0) x; y = near-point (pointAt p 1) y; z = near-point (pointAt p 2) z }

@@ -24,7 +24,7 @@ use Rattle.grade.specs.Refusals.{_orElse_, above}
 use Rattle.grade.specs.Said.{Said, found, answered}
 use Rattle.grade.proofs.Entries.{not-either, ticks-within}
 use Rattle.gyroid.specs.declared.Description.{Description}
-use Rattle.gyroid.specs.Refusals.{between, allFinite}
+use Rattle.gyroid.specs.Refusals.{endsWithin, allFinite}
 use Rattle.gyroid.specs.Fits.{Accepted}
 use Rattle.gyroid.specs.Leaf.{leaf}
 use Rattle.gyroid.specs.Residual.{residual, affineResidual, boxState, stateNumber}
@@ -120,7 +120,7 @@ module _ (lo hi : List ℤ) (b : WholeBox lo hi) where
   in-order : (i : ℕ) → WholeEnds (at lo i) (at hi i) → T (ordered (ends lo hi i))
   in-order i a = tick-order (at lo i) (at hi i) (a .low) (a .high) (a .least)
 
-  in-reach : (i : ℕ) → WholeEnds (at lo i) (at hi i) → T (between farthest (ends lo hi i))
+  in-reach : (i : ℕ) → WholeEnds (at lo i) (at hi i) → T (endsWithin farthest (ends lo hi i))
   in-reach i a =
       let l = nearest (at lo i) 1024 in
       let h = nearest (at hi i) 1024 in
@@ -138,8 +138,8 @@ module _ (lo hi : List ℤ) (b : WholeBox lo hi) where
   pub ticks-near : T (allNear (tickBox lo hi))
   unfolding allNear
   ticks-near =
-      and (between farthest (ends lo hi 0) && between farthest (ends lo hi 1)) (between farthest (ends lo hi 2))
-      (and (between farthest (ends lo hi 0)) (between farthest (ends lo hi 1)) (in-reach 0 (b .x)) (in-reach 1 (b .y))) (in-reach 2 (b .z))
+      and (endsWithin farthest (ends lo hi 0) && endsWithin farthest (ends lo hi 1)) (endsWithin farthest (ends lo hi 2))
+      (and (endsWithin farthest (ends lo hi 0)) (endsWithin farthest (ends lo hi 1)) (in-reach 0 (b .x)) (in-reach 1 (b .y))) (in-reach 2 (b .z))
 
   -- neither 9 nor 10
   pub ticks-box : boxRefusal (tickBox lo hi) ≡ 0

@@ -8,7 +8,7 @@ use lib.Ieee.{Float, le}
 use Rattle.interval.specs.declared.Interval.{Interval}
 use Rattle.interval.specs.Step.{b64}
 use Rattle.grade.specs.Refusals.{refused, _orElse_}
-use Rattle.gyroid.specs.Refusals.{between, every, allFinite}
+use Rattle.gyroid.specs.Refusals.{endsWithin, every, allFinite}
 
 -- what is not ordered: "9: NaN or low above high". `le-is` of the interval layer: low ≤ high fails there and nowhere else
 abbrev pub ordered : Interval → Bool
@@ -27,7 +27,7 @@ allOrdered w = every ordered w
 
 -- what is not near: "10: an end or point beyond 2^40 in size"
 unfoldable pub allNear : List Interval → Bool
-allNear w = every (between farthest) w
+allNear w = every (endsWithin farthest) w
 
 unfoldable pub boxRefusal : List Interval → ℕ
 boxRefusal w = refused (not (allOrdered w)) 9 orElse refused (not (allNear w)) 10

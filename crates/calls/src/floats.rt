@@ -1,6 +1,6 @@
 // Refusals of doubles: 9 over the whole input, then 10; three calls meet an infinite end between them.
 ghost use mathlib.Core.Path.{_≡_};
-ghost use Rattle.gyroid.specs.Refusals.{between};
+ghost use Rattle.gyroid.specs.Refusals.{endsWithin};
 ghost use Rattle.calls.specs.Refusals.{ordered, farthest, allOrdered, allNear, boxRefusal, finiteBoxRefusal, triangleRefusal};
 ghost use Rattle.calls.specs.Calls.{pointBox};
 use grade::refusals::or_else;
@@ -18,7 +18,7 @@ fn ordered(b: Interval) -> bool
 }
 
 fn near(b: Interval) -> bool
-    ensures { λ r. ⌜ r ≡ between farthest b ⌝ }
+    ensures { λ r. ⌜ r ≡ endsWithin farthest b ⌝ }
 {
     (-FARTHEST <= b.lo) & (b.lo <= FARTHEST) & (-FARTHEST <= b.hi) & (b.hi <= FARTHEST)
 }

@@ -12,7 +12,7 @@ use Rattle.exact.proofs.IntegerOrder.{<ℤ-le}
 use Rattle.exact.proofs.Fraction.{≤F-refl, ≤F-trans, ≈F-refl, ≈F-trans, ≈F-le, ≈F-ge, add-monoF, sub-monoF, mul-monoF, mul-antiF, commF, add-congF, mul-congF, whole-add, whole-sub, whole-mul}
 use Rattle.grade.specs.declared.Linear.{Linear}
 use Rattle.grade.specs.Grade.{at, minus, dot, Point, along}
-use Rattle.grade.specs.Exact.{toward, corner, atCorner}
+use Rattle.grade.specs.Exact.{leastEnd, greatestEnd, leastCorner, greatestCorner, leastAlong, greatestAlong}
 use Rattle.grade.specs.Holds.{Inside}
 use Rattle.grade.proofs.Axes.{three}
 
@@ -29,7 +29,7 @@ module _ (p : Fraction) (f d lo hi : ℤ) (above : whole lo ≤F p) (below : p �
   unfolding share
   falling s {a} {b} h = ≤F-trans (≈F-le (commF (b -F whole f) (whole d))) (≤F-trans (mul-antiF (whole d) s (sub-monoF h (≤F-refl (whole f)))) (≈F-le (commF (whole d) (a -F whole f))))
 
-  axis-between : ((whole (toward d lo hi) -F whole f) *F whole d ≤F (p -F whole f) *F whole d) × ((p -F whole f) *F whole d ≤F (whole (toward d hi lo) -F whole f) *F whole d)
+  axis-between : ((whole (leastEnd d lo hi) -F whole f) *F whole d ≤F (p -F whole f) *F whole d) × ((p -F whole f) *F whole d ≤F (whole (greatestEnd d lo hi) -F whole f) *F whole d)
   unfolding share
   axis-between = go (ltZ (pos 0) d) ltZ-yes ltZ-no
     where
@@ -50,26 +50,36 @@ along-whole from d c = ≈F-trans (add-congF (≈F-trans (add-congF (axis 0) (ax
     axis i = ≈F-trans (mul-congF (whole-sub (at c i) (at from i)) (≈F-refl (whole (at d i)))) (whole-mul (at c i -ℤ at from i) (at d i))
 
 module _ (g : Linear) (lo hi : List ℤ) (p : Point) (inside : Inside lo hi p) where
-  axes : (i : ℕ) → i < 3 → ((whole (toward (at (g .direction) i) (at lo i) (at hi i)) -F whole (at (g .from) i)) *F whole (at (g .direction) i) ≤F (p i -F whole (at (g .from) i)) *F whole (at (g .direction) i))
-      × ((p i -F whole (at (g .from) i)) *F whole (at (g .direction) i) ≤F (whole (toward (at (g .direction) i) (at hi i) (at lo i)) -F whole (at (g .from) i)) *F whole (at (g .direction) i))
+  axes : (i : ℕ) → i < 3 → ((whole (leastEnd (at (g .direction) i) (at lo i) (at hi i)) -F whole (at (g .from) i)) *F whole (at (g .direction) i) ≤F (p i -F whole (at (g .from) i)) *F whole (at (g .direction) i))
+      × ((p i -F whole (at (g .from) i)) *F whole (at (g .direction) i) ≤F (whole (greatestEnd (at (g .direction) i) (at lo i) (at hi i)) -F whole (at (g .from) i)) *F whole (at (g .direction) i))
   axes i l = axis-between (p i) (at (g .from) i) (at (g .direction) i) (at lo i) (at hi i) (inside .above i l) (inside .below i l)
 
-  pub along-least : whole (atCorner g lo hi) ≤F along (g .from) (g .direction) p
-  unfolding atCorner along corner
-  along-least = ≤F-trans (≈F-ge (along-whole (g .from) (g .direction) (corner (g .direction) lo hi))) (add-monoF (add-monoF (axes 0 (lit< tt) .0) (axes 1 (lit< tt) .0)) (axes 2 (lit< tt) .0))
+  pub along-least : whole (leastAlong g lo hi) ≤F along (g .from) (g .direction) p
+  unfolding leastAlong along leastCorner
+  along-least = ≤F-trans (≈F-ge (along-whole (g .from) (g .direction) (leastCorner (g .direction) lo hi))) (add-monoF (add-monoF (axes 0 (lit< tt) .0) (axes 1 (lit< tt) .0)) (axes 2 (lit< tt) .0))
 
-  pub along-greatest : along (g .from) (g .direction) p ≤F whole (atCorner g hi lo)
-  unfolding atCorner along corner
-  along-greatest = ≤F-trans (add-monoF (add-monoF (axes 0 (lit< tt) .1) (axes 1 (lit< tt) .1)) (axes 2 (lit< tt) .1)) (≈F-le (along-whole (g .from) (g .direction) (corner (g .direction) hi lo)))
+  pub along-greatest : along (g .from) (g .direction) p ≤F whole (greatestAlong g lo hi)
+  unfolding greatestAlong along greatestCorner
+  along-greatest = ≤F-trans (add-monoF (add-monoF (axes 0 (lit< tt) .1) (axes 1 (lit< tt) .1)) (axes 2 (lit< tt) .1)) (≈F-le (along-whole (g .from) (g .direction) (greatestCorner (g .direction) lo hi)))
 
--- each entry of a corner is an entry of one of the two
-toward-one : (d a b : ℤ) → (toward d a b ≡ a) ⊎ (toward d a b ≡ b)
-toward-one d a b = go (ltZ (pos 0) d)
-  where
-    go : (c : Bool) → (cond c a b ≡ a) ⊎ (cond c a b ≡ b)
-    go true = inl refl
-    go false = inr refl
+-- each entry of either corner is an end of the box
+chosen-end : (c : Bool) (a b : ℤ) → (cond c a b ≡ a) ⊎ (cond c a b ≡ b)
+chosen-end true a b = inl refl
+chosen-end false a b = inr refl
 
-pub corner-ends : (d a b : List ℤ) (i : ℕ) → i < 3 → (at (corner d a b) i ≡ at a i) ⊎ (at (corner d a b) i ≡ at b i)
-unfolding corner
-corner-ends d a b = three (λ i. (at (corner d a b) i ≡ at a i) ⊎ (at (corner d a b) i ≡ at b i)) (toward-one (at d 0) (at a 0) (at b 0)) (toward-one (at d 1) (at a 1) (at b 1)) (toward-one (at d 2) (at a 2) (at b 2))
+least-one : (d lo hi : ℤ) → (leastEnd d lo hi ≡ lo) ⊎ (leastEnd d lo hi ≡ hi)
+least-one d lo hi = chosen-end (ltZ (pos 0) d) lo hi
+
+greatest-one : (d lo hi : ℤ) → (greatestEnd d lo hi ≡ lo) ⊎ (greatestEnd d lo hi ≡ hi)
+greatest-one d lo hi = elim (chosen-end (ltZ (pos 0) d) hi lo) [ inl e ↦ inr e | inr e ↦ inl e ]
+
+module _ (d lo hi : List ℤ) where
+  pub least-ends : (i : ℕ) → i < 3 → (at (leastCorner d lo hi) i ≡ at lo i) ⊎ (at (leastCorner d lo hi) i ≡ at hi i)
+  unfolding leastCorner
+  least-ends = three (λ i. (at (leastCorner d lo hi) i ≡ at lo i) ⊎ (at (leastCorner d lo hi) i ≡ at hi i))
+      (least-one (at d 0) (at lo 0) (at hi 0)) (least-one (at d 1) (at lo 1) (at hi 1)) (least-one (at d 2) (at lo 2) (at hi 2))
+
+  pub greatest-ends : (i : ℕ) → i < 3 → (at (greatestCorner d lo hi) i ≡ at lo i) ⊎ (at (greatestCorner d lo hi) i ≡ at hi i)
+  unfolding greatestCorner
+  greatest-ends = three (λ i. (at (greatestCorner d lo hi) i ≡ at lo i) ⊎ (at (greatestCorner d lo hi) i ≡ at hi i))
+      (greatest-one (at d 0) (at lo 0) (at hi 0)) (greatest-one (at d 1) (at lo 1) (at hi 1)) (greatest-one (at d 2) (at lo 2) (at hi 2))

@@ -26,7 +26,7 @@ use Rattle.interval.proofs.Bounds.{clamp-encloses}
 use Rattle.grade.specs.declared.Grade.{Grade}
 use Rattle.grade.specs.declared.GradeDef.{GradeDef}
 use Rattle.grade.specs.declared.LevelKind.{LevelKind}
-use Rattle.grade.specs.Grade.{at, direction, lengthSq, Point, along, t, between, level}
+use Rattle.grade.specs.Grade.{at, direction, lengthSq, Point, along, t, rampLevel, level}
 use Rattle.grade.specs.Exact.{linearOf, numbers, constantDef, compiled}
 use Rattle.grade.specs.Refusals.{coincident}
 use Rattle.grade.specs.Fits.{Within3, InLimits}
@@ -111,7 +111,7 @@ module _ (g : Grade) (s : Sizes g) (apart : pos 0 <ℤ lengthSq g) where
             (over-cong (length-pos g apart) (≈F-trans (commF m (total /F 1048576)) (over-times total (lit< tt))))))
 
 -- ---- start + x (end − start)
-level-of-encloses : (g : Grade) → Sizes g → {x : Fraction} {X : Interval} → In 83 x X → In 91 (inUnits (between g x)) (levelOf (linearIntervals (numbers g)) X)
+level-of-encloses : (g : Grade) → Sizes g → {x : Fraction} {X : Interval} → In 83 x X → In 91 (inUnits (rampLevel g x)) (levelOf (linearIntervals (numbers g)) X)
 unfolding levelOf linearIntervals linearOf
 level-of-encloses g s {x} h = equal-in same (add-encloses tt start (mul-encloses tt h (sub-encloses tt (unit-encloses 2 (g .end) tt (s .end .abs)) start)))
   where
@@ -124,7 +124,7 @@ level-of-encloses g s {x} h = equal-in same (add-encloses tt start (mul-encloses
     risen : inUnits (whole (g .end)) -F inUnits (whole (g .start)) ≈F inUnits rise
     risen = ≈F-trans (≈F-sym (over-sub (whole (g .end)) (whole (g .start)) (lit< tt))) (over-cong (lit< tt) (whole-sub (g .end) (g .start)))
 
-    same : inUnits (whole (g .start)) +F x *F (inUnits (whole (g .end)) -F inUnits (whole (g .start))) ≈F inUnits (between g x)
+    same : inUnits (whole (g .start)) +F x *F (inUnits (whole (g .end)) -F inUnits (whole (g .start))) ≈F inUnits (rampLevel g x)
     same = ≈F-trans (add-congF (≈F-refl (inUnits (whole (g .start)))) (≈F-trans (mul-congF (≈F-refl x) risen) (≈F-trans (commF x (inUnits rise)) (≈F-trans (≈F-sym (over-mul rise x (lit< tt))) (over-cong (lit< tt) (commF rise x))))))
         (≈F-sym (over-add (whole (g .start)) (x *F rise) (lit< tt)))
 

@@ -13,13 +13,13 @@ use Rattle.grade.specs.declared.Grade.{Grade}
 use Rattle.grade.specs.declared.Piece.the-variants.{Start, Ramp, End}
 use Rattle.grade.specs.declared.PieceAnswer.{PieceAnswer}
 use Rattle.grade.specs.declared.PieceAnswer.the-variants.{Found, None}
-use Rattle.grade.specs.Grade.{isLinear, lengthSq, Point, t, between, level}
-use Rattle.grade.specs.Exact.{linearOf, numbers, constantDef, compiled, atCorner, chosen, linearPiece, exactPiece}
+use Rattle.grade.specs.Grade.{isLinear, lengthSq, Point, t, rampLevel, level}
+use Rattle.grade.specs.Exact.{linearOf, numbers, constantDef, compiled, leastAlong, greatestAlong, chosen, linearPiece, exactPiece}
 use Rattle.grade.specs.Refusals.{coincident}
 use Rattle.grade.specs.Holds.{Inside, Says, SaysLevel, affineLevel}
 use Rattle.grade.proofs.Entries.{both}
 use Rattle.grade.proofs.Accepted.{linear-apart, by-kind}
-use Rattle.grade.proofs.LevelLaws.{between-cong, between-zero, between-one, level-linear, level-flat, affine-linear, affine-flat, length-pos, over-length}
+use Rattle.grade.proofs.LevelLaws.{ramp-cong, ramp-zero, ramp-one, level-linear, level-flat, affine-linear, affine-flat, length-pos, over-length}
 use Rattle.grade.proofs.CornerLaws.{along-least, along-greatest}
 
 -- ---- from the tests, in their order, to what the piece says
@@ -33,13 +33,13 @@ chosen-says false false false x s e r = tt
 pub says-level : (g : Grade) (p : Point) → T (isLinear g) → (a : PieceAnswer) → Says a (t g p) → SaysLevel g p a
 says-level g p l a h = go a h
   where
-    held-level : {x : Fraction} → heldF (t g p) oneF ≈F x → level g p ≈F between g x
-    held-level {x} e = subst (λ (q : Fraction). q ≈F between g x) (sym (level-linear g p l)) (between-cong g e)
+    held-level : {x : Fraction} → heldF (t g p) oneF ≈F x → level g p ≈F rampLevel g x
+    held-level {x} e = subst (λ (q : Fraction). q ≈F rampLevel g x) (sym (level-linear g p l)) (ramp-cong g e)
 
     go : (a : PieceAnswer) → Says a (t g p) → SaysLevel g p a
-    go (Found Start) h = ≈F-trans (held-level (held-low (t g p) oneF (whole-le (leZ-yes tt)) h)) (between-zero g)
+    go (Found Start) h = ≈F-trans (held-level (held-low (t g p) oneF (whole-le (leZ-yes tt)) h)) (ramp-zero g)
     go (Found Ramp) h = held-level (held-between (t g p) oneF (h .0) (h .1))
-    go (Found End) h = ≈F-trans (held-level (held-high (t g p) oneF h)) (between-one g)
+    go (Found End) h = ≈F-trans (held-level (held-high (t g p) oneF h)) (ramp-one g)
     go None h = tt
 
 -- on a ramp the level is its affine extension
@@ -48,11 +48,11 @@ ramp-affine g p h = by-kind g (λ _. level g p ≈F affineLevel g p) (λ l. subs
 
 -- ---- the exact piece
 module _ (g : Grade) (apart : pos 0 <ℤ lengthSq g) (lo hi : List ℤ) (p : Point) (inside : Inside lo hi p) where
-  below : (z : ℤ) → T (leZ (atCorner (numbers g) hi lo) z) → t g p ≤F whole z /F natAbs (lengthSq g)
+  below : (z : ℤ) → T (leZ (greatestAlong (numbers g) lo hi) z) → t g p ≤F whole z /F natAbs (lengthSq g)
   unfolding t linearOf
   below z u = over-mono (length-pos g apart) (≤F-trans (along-greatest (numbers g) lo hi p inside) (whole-le (leZ-yes u)))
 
-  above : (z : ℤ) → T (leZ z (atCorner (numbers g) lo hi)) → whole z /F natAbs (lengthSq g) ≤F t g p
+  above : (z : ℤ) → T (leZ z (leastAlong (numbers g) lo hi)) → whole z /F natAbs (lengthSq g) ≤F t g p
   unfolding t linearOf
   above z u = over-mono (length-pos g apart) (≤F-trans (whole-le (leZ-yes u)) (along-least (numbers g) lo hi p inside))
 
@@ -64,10 +64,10 @@ module _ (g : Grade) (apart : pos 0 <ℤ lengthSq g) (lo hi : List ℤ) (p : Poi
       (λ u. let (v, w) = both (leZ (pos 0) least) (leZ greatest (lengthSq g)) u in (≤F-trans (≈F-ge (over-zero (length-pos g apart))) (above (pos 0) v), ≤F-trans (below (lengthSq g) w) (≈F-le (over-length g apart))))
     where
       least : ℤ
-      least = atCorner (numbers g) lo hi
+      least = leastAlong (numbers g) lo hi
 
       greatest : ℤ
-      greatest = atCorner (numbers g) hi lo
+      greatest = greatestAlong (numbers g) lo hi
 
 -- THE FACT
 pub exact-piece-says : (g : Grade) (lo hi : List ℤ) → T (not (coincident g)) → (p : Point) → Inside lo hi p → SaysLevel g p (exactPiece (compiled g) lo hi)

@@ -13,13 +13,13 @@ use Rattle.exact.proofs.IntegerOrder.{<ℤ-le, ≤ℤ-trans}
 use Rattle.exact.proofs.Fraction.{≤F-trans, ≈F-sym, ≈F-trans, ≈F-le, ≈F-ge, over-mono, over-cong, over-one, whole-le}
 use Rattle.exact.proofs.FractionSize.{held-mono, held-cong}
 use Rattle.grade.specs.declared.Grade.{Grade}
-use Rattle.grade.specs.Grade.{at, eqZ, isLinear, direction, lengthSq, Point, along, t, between, level}
-use Rattle.grade.specs.Exact.{linearOf, numbers, constantDef, compiled, corner, atCorner, levelOver, boundsOf, linearRange, range}
+use Rattle.grade.specs.Grade.{at, eqZ, isLinear, direction, lengthSq, Point, along, t, rampLevel, level}
+use Rattle.grade.specs.Exact.{linearOf, numbers, constantDef, compiled, leastCorner, greatestCorner, leastAlong, greatestAlong, levelOver, boundsOf, linearRange, range}
 use Rattle.grade.specs.Refusals.{coincident}
 use Rattle.grade.specs.Holds.{Taken, RangeHolds}
 use Rattle.grade.proofs.Accepted.{linear-apart, by-kind}
-use Rattle.grade.proofs.LevelLaws.{between-cong, between-mono, level-linear, level-flat, length-pos, level-over}
-use Rattle.grade.proofs.CornerLaws.{along-whole, along-least, along-greatest, corner-ends}
+use Rattle.grade.proofs.LevelLaws.{ramp-cong, ramp-mono, level-linear, level-flat, length-pos, level-over}
+use Rattle.grade.proofs.CornerLaws.{along-whole, along-least, along-greatest, least-ends, greatest-ends}
 
 -- ---- two numbers in order
 module _ (a b over : ℤ) where
@@ -41,39 +41,39 @@ module _ (g : Grade) (linear : T (isLinear g)) (apart : pos 0 <ℤ lengthSq g) w
   at-whole : (p : Point) (z : ℤ) → along (g .from) (direction g) p ≈F whole z → level g p ≈F whole (levelOver (numbers g) z) /F natAbs (lengthSq g)
   unfolding t
   at-whole p z e = subst (λ (q : Fraction). q ≈F whole (levelOver (numbers g) z) /F natAbs (lengthSq g)) (sym (level-linear g p linear))
-      (≈F-trans (between-cong g (held-cong oneF (over-cong (length-pos g apart) e))) (level-over g apart z))
+      (≈F-trans (ramp-cong g (held-cong oneF (over-cong (length-pos g apart) e))) (level-over g apart z))
 
   -- between two whole numerators the level is between the levels there, either way round
   at-between : (p : Point) (x z : ℤ) → whole x ≤F along (g .from) (direction g) p → along (g .from) (direction g) p ≤F whole z →
       ((whole (levelOver (numbers g) x) /F natAbs (lengthSq g) ≤F level g p) × (level g p ≤F whole (levelOver (numbers g) z) /F natAbs (lengthSq g)))
       ⊎ ((whole (levelOver (numbers g) z) /F natAbs (lengthSq g) ≤F level g p) × (level g p ≤F whole (levelOver (numbers g) x) /F natAbs (lengthSq g)))
   unfolding t
-  at-between p x z h k = elim (between-mono g (held-mono oneF (over-mono (length-pos g apart) h)) (held-mono oneF (over-mono (length-pos g apart) k))) [
+  at-between p x z h k = elim (ramp-mono g (held-mono oneF (over-mono (length-pos g apart) h)) (held-mono oneF (over-mono (length-pos g apart) k))) [
     | inl s ↦ inl (≤F-trans (≈F-ge (level-over g apart x)) (to (s .0)), ≤F-trans (from (s .1)) (≈F-le (level-over g apart z)))
     | inr s ↦ inr (≤F-trans (≈F-ge (level-over g apart z)) (to (s .0)), ≤F-trans (from (s .1)) (≈F-le (level-over g apart x)))
   ]
     where
-      to : {q : Fraction} → q ≤F between g (heldF (t g p) oneF) → q ≤F level g p
+      to : {q : Fraction} → q ≤F rampLevel g (heldF (t g p) oneF) → q ≤F level g p
       to {q} u = subst (λ (r : Fraction). q ≤F r) (sym (level-linear g p linear)) u
 
-      from : {q : Fraction} → between g (heldF (t g p) oneF) ≤F q → level g p ≤F q
+      from : {q : Fraction} → rampLevel g (heldF (t g p) oneF) ≤F q → level g p ≤F q
       from {q} u = subst (λ (r : Fraction). r ≤F q) (sym (level-linear g p linear)) u
 
   module _ (lo hi : List ℤ) where
-    low-corner : Taken g lo hi (whole (levelOver (numbers g) (atCorner (numbers g) lo hi)) /F natAbs (lengthSq g))
-    unfolding atCorner linearOf
+    low-corner : Taken g lo hi (whole (levelOver (numbers g) (leastAlong (numbers g) lo hi)) /F natAbs (lengthSq g))
+    unfolding leastAlong linearOf
     low-corner = record {
-      corner = corner (direction g) lo hi;
-      ends = corner-ends (direction g) lo hi;
-      value = at-whole (λ i. whole (at (corner (direction g) lo hi) i)) (atCorner (numbers g) lo hi) (along-whole (g .from) (direction g) (corner (direction g) lo hi));
+      corner = leastCorner (direction g) lo hi;
+      ends = least-ends (direction g) lo hi;
+      value = at-whole (λ i. whole (at (leastCorner (direction g) lo hi) i)) (leastAlong (numbers g) lo hi) (along-whole (g .from) (direction g) (leastCorner (direction g) lo hi));
     }
 
-    high-corner : Taken g lo hi (whole (levelOver (numbers g) (atCorner (numbers g) hi lo)) /F natAbs (lengthSq g))
-    unfolding atCorner linearOf
+    high-corner : Taken g lo hi (whole (levelOver (numbers g) (greatestAlong (numbers g) lo hi)) /F natAbs (lengthSq g))
+    unfolding greatestAlong linearOf
     high-corner = record {
-      corner = corner (direction g) hi lo;
-      ends = λ i l. swap (corner-ends (direction g) hi lo i l);
-      value = at-whole (λ i. whole (at (corner (direction g) hi lo) i)) (atCorner (numbers g) hi lo) (along-whole (g .from) (direction g) (corner (direction g) hi lo));
+      corner = greatestCorner (direction g) lo hi;
+      ends = greatest-ends (direction g) lo hi;
+      value = at-whole (λ i. whole (at (greatestCorner (direction g) lo hi) i)) (greatestAlong (numbers g) lo hi) (along-whole (g .from) (direction g) (greatestCorner (direction g) lo hi));
     }
       where
         swap : {A B : Type 0} → A ⊎ B → B ⊎ A
@@ -88,7 +88,7 @@ module _ (g : Grade) (linear : T (isLinear g)) (apart : pos 0 <ℤ lengthSq g) w
     unfolding linearRange linearOf
     linear-holds = record {
       ordered = ≤ℤ-trans (low-left a b (lengthSq g)) (high-left a b (lengthSq g));
-      holds = λ p i. elim (at-between p (atCorner (numbers g) lo hi) (atCorner (numbers g) hi lo) (along-least (numbers g) lo hi p i) (along-greatest (numbers g) lo hi p i)) [
+      holds = λ p i. elim (at-between p (leastAlong (numbers g) lo hi) (greatestAlong (numbers g) lo hi) (along-least (numbers g) lo hi p i) (along-greatest (numbers g) lo hi p i)) [
         | inl s ↦ (≤F-trans (over (low-left a b (lengthSq g))) (s .0), ≤F-trans (s .1) (over (high-right a b (lengthSq g))))
         | inr s ↦ (≤F-trans (over (low-right a b (lengthSq g))) (s .0), ≤F-trans (s .1) (over (high-left a b (lengthSq g))))
       ];
@@ -97,10 +97,10 @@ module _ (g : Grade) (linear : T (isLinear g)) (apart : pos 0 <ℤ lengthSq g) w
     }
       where
         a : ℤ
-        a = levelOver (numbers g) (atCorner (numbers g) lo hi)
+        a = levelOver (numbers g) (leastAlong (numbers g) lo hi)
 
         b : ℤ
-        b = levelOver (numbers g) (atCorner (numbers g) hi lo)
+        b = levelOver (numbers g) (greatestAlong (numbers g) lo hi)
 
 -- ---- a constant, or equal ends
 flat-holds : (g : Grade) (lo hi : List ℤ) → T (not (isLinear g && not (eqZ (g .start) (g .end)))) → RangeHolds g lo hi (record { low = g .start; high = g .start; over = pos 1 })

@@ -28,7 +28,7 @@ use Rattle.grade.proofs.Entries.{sizes}
 use Rattle.grade.proofs.Sizes.{minus-within}
 use Rattle.grade.proofs.AxisLaws.{within-at}
 use Rattle.grade.proofs.Accepted.{linear-apart, by-kind}
-use Rattle.grade.proofs.LevelLaws.{between-cong, rise-zero, affine-linear, affine-flat, length-pos}
+use Rattle.grade.proofs.LevelLaws.{ramp-cong, rise-zero, affine-linear, affine-flat, length-pos}
 
 -- ---- by the kind
 slope-linear : (g : Grade) (i : ℕ) → T (isLinear g) → slope g i ≡ whole (at (direction g) i *ℤ (g .end -ℤ g .start)) /F natAbs (lengthSq g)
@@ -93,7 +93,7 @@ module _ (g : Grade) (l : T (isLinear g)) (apart : T (not (coincident g))) where
   extended : (p : Point) → affineLevel g p ≈F whole (g .start) +F along (g .from) (direction g) p *F ratio (pos 1) (natAbs (lengthSq g)) N *F whole (g .end -ℤ g .start)
   unfolding t
   extended p = subst (λ (q : Fraction). q ≈F whole (g .start) +F along (g .from) (direction g) p *F ratio (pos 1) (natAbs (lengthSq g)) N *F whole (g .end -ℤ g .start)) (sym (affine-linear g p l))
-      (between-cong g (over-is (along (g .from) (direction g) p) N))
+      (ramp-cong g (over-is (along (g .from) (direction g) p) N))
 
   sloped : (i : ℕ) → slope g i ≈F whole (at (direction g) i) *F whole (g .end -ℤ g .start) *F ratio (pos 1) (natAbs (lengthSq g)) N
   sloped i = subst (λ (q : Fraction). q ≈F whole (at (direction g) i) *F whole (g .end -ℤ g .start) *F ratio (pos 1) (natAbs (lengthSq g)) N) (sym (slope-linear g i l))

@@ -22,6 +22,6 @@ unfoldable pub rangeCall : Grade → List ℤ → List ℤ → Said ℤ
 rangeCall g lo hi = answered (rangeRefusal g lo hi) (three (range (compiled g) lo hi))
 
 -- of an accepted call the bounds are ordered, hold every level of the box and are taken at its corners
-abbrev pub Holds : Grade → List ℤ → List ℤ → RangeAnswer → Type 0
-Holds g lo hi (Refused n) = Unit {0}
-Holds g lo hi (Found b) = RangeHolds g lo hi b
+abbrev pub AnswerHolds : Grade → List ℤ → List ℤ → RangeAnswer → Type 0
+AnswerHolds g lo hi (Refused n) = Unit {0}
+AnswerHolds g lo hi (Found b) = RangeHolds g lo hi b

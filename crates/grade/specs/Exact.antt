@@ -34,17 +34,27 @@ compiled g =
     (record { kind = LevelKind.Linear; linear = numbers g })
     (constantDef (g .start))
 
--- ---- t's numerator over a box
--- a where d is above 0, and b elsewhere: x·d is least there for a box from a to b, and greatest for a box from b to a
-abbrev pub toward : ℤ → ℤ → ℤ → ℤ
-toward d a b = cond (ltZ (pos 0) d) a b
+-- ---- t's numerator over a box: along an axis it grows with the coordinate where d is above 0, and elsewhere it does not
+-- the end of lo..hi where x·d is least, and the one where it is greatest
+abbrev pub leastEnd : ℤ → ℤ → ℤ → ℤ
+leastEnd d lo hi = cond (ltZ (pos 0) d) lo hi
 
-unfoldable pub corner : List ℤ → List ℤ → List ℤ → List ℤ
-corner d a b = toward (at d 0) (at a 0) (at b 0) ∷ toward (at d 1) (at a 1) (at b 1) ∷ toward (at d 2) (at a 2) (at b 2) ∷ []
+abbrev pub greatestEnd : ℤ → ℤ → ℤ → ℤ
+greatestEnd d lo hi = cond (ltZ (pos 0) d) hi lo
 
--- (p − from)·d at that corner: the least of the box is `atCorner g lo hi`, the greatest `atCorner g hi lo`
-unfoldable pub atCorner : Linear → List ℤ → List ℤ → ℤ
-atCorner g a b = dot (minus (corner (g .direction) a b) (g .from)) (g .direction)
+-- the corner of the box lo..hi where p·d is least, and the one where it is greatest
+unfoldable pub leastCorner : List ℤ → List ℤ → List ℤ → List ℤ
+leastCorner d lo hi = leastEnd (at d 0) (at lo 0) (at hi 0) ∷ leastEnd (at d 1) (at lo 1) (at hi 1) ∷ leastEnd (at d 2) (at lo 2) (at hi 2) ∷ []
+
+unfoldable pub greatestCorner : List ℤ → List ℤ → List ℤ → List ℤ
+greatestCorner d lo hi = greatestEnd (at d 0) (at lo 0) (at hi 0) ∷ greatestEnd (at d 1) (at lo 1) (at hi 1) ∷ greatestEnd (at d 2) (at lo 2) (at hi 2) ∷ []
+
+-- (p − from)·d at each of them
+unfoldable pub leastAlong : Linear → List ℤ → List ℤ → ℤ
+leastAlong g lo hi = dot (minus (leastCorner (g .direction) lo hi) (g .from)) (g .direction)
+
+unfoldable pub greatestAlong : Linear → List ℤ → List ℤ → ℤ
+greatestAlong g lo hi = dot (minus (greatestCorner (g .direction) lo hi) (g .from)) (g .direction)
 
 -- ---- "An answer is a numerator over L in level counts, unreduced, or over 1 for a constant"
 -- "held to 0..1": the numerator to 0..l
@@ -61,7 +71,7 @@ boundsOf a b over = record { low = cond (ltZ b a) b a; high = cond (ltZ b a) a b
 
 -- "takes both bounds at corners"
 unfoldable pub linearRange : Linear → List ℤ → List ℤ → Bounds
-linearRange g lo hi = boundsOf (levelOver g (atCorner g lo hi)) (levelOver g (atCorner g hi lo)) (g .«length_sq»)
+linearRange g lo hi = boundsOf (levelOver g (leastAlong g lo hi)) (levelOver g (greatestAlong g lo hi)) (g .«length_sq»)
 
 abbrev rangeBy : LevelKind → Linear → List ℤ → List ℤ → Bounds
 rangeBy LevelKind.Constant g lo hi = record { low = g .start; high = g .start; over = pos 1 }
@@ -77,8 +87,8 @@ chosen start end ramp = cond start (Found Start) (cond end (Found End) (cond ram
 -- t is its numerator over L, which is above 0
 unfoldable pub linearPiece : Linear → List ℤ → List ℤ → PieceAnswer
 linearPiece g lo hi =
-    let least = atCorner g lo hi in
-    let greatest = atCorner g hi lo in
+    let least = leastAlong g lo hi in
+    let greatest = greatestAlong g lo hi in
     let l = g .«length_sq» in
     chosen (leZ greatest (pos 0)) (leZ l least) (leZ (pos 0) least && leZ greatest l)
 

@@ -60,9 +60,9 @@ unfoldable pub t : Grade → Point → Fraction
 t g p = along (g .from) (direction g) p /F natAbs (lengthSq g)
 
 -- start + x (end − start)
-abbrev pub between : Grade → Fraction → Fraction
-between g x = whole (g .start) +F x *F whole (g .end -ℤ g .start)
+abbrev pub rampLevel : Grade → Fraction → Fraction
+rampLevel g x = whole (g .start) +F x *F whole (g .end -ℤ g .start)
 
 -- "The level is start + t' (end−start), t' being t held to 0..1"; "(constant uses `start`)". A distance level is refused, so it has none to state
 unfoldable pub level : Grade → Point → Fraction
-level g p = cond (isLinear g) (between g (heldF (t g p) oneF)) (whole (g .start))
+level g p = cond (isLinear g) (rampLevel g (heldF (t g p) oneF)) (whole (g .start))

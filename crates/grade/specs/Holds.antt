@@ -16,7 +16,7 @@ use Rattle.grade.specs.declared.PieceAnswer.the-variants.{Found, None}
 use Rattle.grade.specs.declared.Axis.{Axis}
 use Rattle.grade.specs.declared.Axis.the-variants.{One}
 use Rattle.grade.specs.declared.Planes.{Planes}
-use Rattle.grade.specs.Grade.{at, Point, isLinear, direction, lengthSq, t, between, level}
+use Rattle.grade.specs.Grade.{at, Point, isLinear, direction, lengthSq, t, rampLevel, level}
 
 -- ---- a rational point of a box of whole ticks, its faces included
 pub record Inside (lo hi : List ℤ) (p : Point) : Type 0 where
@@ -49,7 +49,7 @@ Says None t = Unit {0}
 
 abbrev pub SaysLevel : Grade → Point → PieceAnswer → Type 0
 SaysLevel g p (Found Start) = level g p ≈F whole (g .start)
-SaysLevel g p (Found Ramp) = level g p ≈F between g (t g p)
+SaysLevel g p (Found Ramp) = level g p ≈F rampLevel g (t g p)
 SaysLevel g p (Found End) = level g p ≈F whole (g .end)
 SaysLevel g p None = Unit {0}
 
@@ -60,7 +60,7 @@ positions Axis.None g = Planes.None
 
 -- ---- the affine extension of the level, and its slope along an axis in level counts per tick
 unfoldable pub affineLevel : Grade → Point → Fraction
-affineLevel g p = cond (isLinear g) (between g (t g p)) (whole (g .start))
+affineLevel g p = cond (isLinear g) (rampLevel g (t g p)) (whole (g .start))
 
 unfoldable pub slope : Grade → ℕ → Fraction
 slope g i = cond (isLinear g) (whole (at (direction g) i *ℤ (g .end -ℤ g .start)) /F natAbs (lengthSq g)) zeroF

@@ -1,14 +1,14 @@
 // The linear level's numbers, and its exact answers over a whole-number box: numerators over L, in i64 without overflow.
 ghost use mathlib.Core.Path.{_≡_};
 ghost use Rattle.exact.specs.Within.{Within};
-ghost use Rattle.grade.specs.Exact.{linearOf, held, levelOver, atCorner, boundsOf, linearRange, chosen, linearPiece};
+ghost use Rattle.grade.specs.Exact.{linearOf, held, levelOver, leastAlong, greatestAlong, boundsOf, linearRange, chosen, linearPiece};
 ghost use Rattle.grade.specs.Fits.{Within3, LinearFits};
 use crate::Bounds;
 use crate::Linear;
 use crate::Piece;
 use crate::PieceAnswer;
-use crate::vector::corner;
 use crate::vector::dot;
+use crate::vector::least_corner;
 use crate::vector::minus;
 
 fn held(t: i64, l: i64) -> i64
@@ -71,16 +71,24 @@ impl Linear {
         }
     }
 
-    // t's numerator at the corner that takes a where d is above 0 and b elsewhere: the least from (lo, hi), the greatest from (hi, lo).
-    pub fn at_corner(self, a: [i64; 3], b: [i64; 3]) -> i64
-        requires { ⌜ LinearFits self × (Within3 1048576 a × Within3 1048576 b) ⌝ }
-        ensures { λ r. ⌜ r ≡ atCorner self a b ⌝ }
+    // t's least numerator over a box.
+    pub fn least_along(self, lo: [i64; 3], hi: [i64; 3]) -> i64
+        requires { ⌜ LinearFits self × (Within3 1048576 lo × Within3 1048576 hi) ⌝ }
+        ensures { λ r. ⌜ r ≡ leastAlong self lo hi ⌝ }
     {
         let d = self.direction;
         let from = self.from;
-        let p = corner(d, a, b);
+        let p = least_corner(d, lo, hi);
         let rel = minus(p, from);
         dot(rel, d)
+    }
+
+    // And its greatest: the corner where the box with its ends exchanged has the least.
+    pub fn greatest_along(self, lo: [i64; 3], hi: [i64; 3]) -> i64
+        requires { ⌜ LinearFits self × (Within3 1048576 lo × Within3 1048576 hi) ⌝ }
+        ensures { λ r. ⌜ r ≡ greatestAlong self lo hi ⌝ }
+    {
+        self.least_along(hi, lo)
     }
 
     // The level's numerator where t's numerator is t.
@@ -96,8 +104,8 @@ impl Linear {
         requires { ⌜ LinearFits self × (Within3 1048576 lo × Within3 1048576 hi) ⌝ }
         ensures { λ r. ⌜ r ≡ linearRange self lo hi ⌝ }
     {
-        let a = self.level_over(self.at_corner(lo, hi));
-        let b = self.level_over(self.at_corner(hi, lo));
+        let a = self.level_over(self.least_along(lo, hi));
+        let b = self.level_over(self.greatest_along(lo, hi));
         ordered(a, b, self.length_sq)
     }
 
@@ -105,8 +113,8 @@ impl Linear {
         requires { ⌜ LinearFits self × (Within3 1048576 lo × Within3 1048576 hi) ⌝ }
         ensures { λ r. ⌜ r ≡ linearPiece self lo hi ⌝ }
     {
-        let least = self.at_corner(lo, hi);
-        let greatest = self.at_corner(hi, lo);
+        let least = self.least_along(lo, hi);
+        let greatest = self.greatest_along(lo, hi);
         let l = self.length_sq;
         chosen(greatest <= 0, l <= least, (0 <= least) & (greatest <= l))
     }

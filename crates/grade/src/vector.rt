@@ -1,7 +1,7 @@
 // Whole-number vectors of three: the anchors, their difference, the corners of a box.
 ghost use mathlib.Core.Path.{_≡_};
 ghost use Rattle.grade.specs.Grade.{minus, dot};
-ghost use Rattle.grade.specs.Exact.{toward, corner};
+ghost use Rattle.grade.specs.Exact.{leastEnd, leastCorner};
 ghost use Rattle.grade.specs.Fits.{Within3};
 
 pub fn minus(a: [i64; 3], b: [i64; 3]) -> [i64; 3]
@@ -18,18 +18,18 @@ pub fn dot(a: [i64; 3], b: [i64; 3]) -> i64
     a[0] * b[0] + a[1] * b[1] + a[2] * b[2]
 }
 
-fn toward(d: i64, a: i64, b: i64) -> i64
-    ensures { λ r. ⌜ r ≡ toward d a b ⌝ }
+fn least_end(d: i64, lo: i64, hi: i64) -> i64
+    ensures { λ r. ⌜ r ≡ leastEnd d lo hi ⌝ }
 {
-    if 0 < d { a } else { b }
+    if 0 < d { lo } else { hi }
 }
 
-// Of the box between a and b, the corner that has a's entry where d's is above 0, and b's elsewhere.
-pub fn corner(d: [i64; 3], a: [i64; 3], b: [i64; 3]) -> [i64; 3]
-    ensures { λ r. ⌜ r ≡ corner d a b ⌝ }
+// The corner of a box where the product with d is least.
+pub fn least_corner(d: [i64; 3], lo: [i64; 3], hi: [i64; 3]) -> [i64; 3]
+    ensures { λ r. ⌜ r ≡ leastCorner d lo hi ⌝ }
 {
-    let x = toward(d[0], a[0], b[0]);
-    let y = toward(d[1], a[1], b[1]);
-    let z = toward(d[2], a[2], b[2]);
+    let x = least_end(d[0], lo[0], hi[0]);
+    let y = least_end(d[1], lo[1], hi[1]);
+    let z = least_end(d[2], lo[2], hi[2]);
     [x, y, z]
 }

@@ -19,7 +19,7 @@ use Rattle.gyroid.specs.declared.Part.{Part}
 use Rattle.gyroid.specs.declared.LevelAbout.{LevelAbout}
 use Rattle.gyroid.specs.declared.Residual.{Residual}
 use Rattle.gyroid.specs.declared.Residual.the-variants.{None}
-use Rattle.gyroid.specs.Refusals.{between, greatestDouble, allFinite}
+use Rattle.gyroid.specs.Refusals.{endsWithin, greatestDouble, allFinite}
 use Rattle.gyroid.specs.Turn.{turn}
 use Rattle.gyroid.specs.Jet.{wavesOf, waves, jetOf, jet}
 use Rattle.gyroid.specs.Residual.{centre, radii, held, expanded, expansion, levelAt, residualOn, residualBy, residual, stateOf, boxState}
@@ -32,7 +32,7 @@ partBy q t g i b = cond (not q) noPart (partOf t (g .intervals) i b)
 -- ---- the shares of a part that is found
 shares-found : (g : Gyroid) (i : ℕ) (b : Interval) → T (part g i b .found) → part g i b .shares ≡ shares (g .intervals) i b (point (mid b))
 unfolding part
-shares-found g i b = go (between greatestDouble b) (turn g (product (point (mid b)) (g .turns)))
+shares-found g i b = go (endsWithin greatestDouble b) (turn g (product (point (mid b)) (g .turns)))
   where
     go : (q : Bool) (t : Turn) → T (partBy q t g i b .found) → partBy q t g i b .shares ≡ shares (g .intervals) i b (point (mid b))
     go true (Turn.Found s c) u = refl
@@ -74,7 +74,7 @@ module _ (g : Gyroid) (w : List Interval) where
 
   pub expansion-joined : (level : Interval) (slope : List Interval) → expansion g w level slope ≡ expansionOf g x y z level slope
   unfolding expansion expanded allFinite jet waves centre radii part joinedAbout
-  expansion-joined level slope = go (between greatestDouble (boxAt w 0)) (between greatestDouble (boxAt w 1)) (between greatestDouble (boxAt w 2)) (turn g (product (point (mid (boxAt w 0))) (g .turns))) (turn g (product (point (mid (boxAt w 1))) (g .turns))) (turn g (product (point (mid (boxAt w 2))) (g .turns)))
+  expansion-joined level slope = go (endsWithin greatestDouble (boxAt w 0)) (endsWithin greatestDouble (boxAt w 1)) (endsWithin greatestDouble (boxAt w 2)) (turn g (product (point (mid (boxAt w 0))) (g .turns))) (turn g (product (point (mid (boxAt w 1))) (g .turns))) (turn g (product (point (mid (boxAt w 2))) (g .turns)))
     where
       go : (a b c : Bool) (p q r : Turn) → cond (not (a && b && c)) None (expanded (g .«wave_squared») (jetOf (wavesOf p q r) (g .wave)) level slope (radii w)) ≡ expansionOf g (partBy a p g 0 (boxAt w 0)) (partBy b q g 1 (boxAt w 1)) (partBy c r g 2 (boxAt w 2)) level slope
       go false b c p q r = refl

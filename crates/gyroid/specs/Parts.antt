@@ -19,7 +19,7 @@ use Rattle.gyroid.specs.declared.Part.{Part}
 use Rattle.gyroid.specs.declared.LevelAbout.{LevelAbout}
 use Rattle.gyroid.specs.declared.Residual.{Residual}
 use Rattle.gyroid.specs.declared.Residual.the-variants.{None}
-use Rattle.gyroid.specs.Refusals.{between, greatestDouble}
+use Rattle.gyroid.specs.Refusals.{endsWithin, greatestDouble}
 use Rattle.gyroid.specs.Turn.{turn}
 use Rattle.gyroid.specs.Jet.{valueAt, gradientAt}
 use Rattle.gyroid.specs.Residual.{radius, held, aboutCentre}
@@ -45,7 +45,7 @@ partOf Turn.None g i b = noPart
 
 -- found where both ends are finite and the middle's turn is
 unfoldable pub part : Gyroid → ℕ → Interval → Part
-part g i b = cond (not (between greatestDouble b)) noPart (partOf (turn g (product (point (mid b)) (g .turns))) (g .intervals) i b)
+part g i b = cond (not (endsWithin greatestDouble b)) noPart (partOf (turn g (product (point (mid b)) (g .turns))) (g .intervals) i b)
 
 -- ---- the level about the centre of the box whose parts these are
 -- of one piece, t being m at the centre

@@ -36,8 +36,8 @@ unsupported n = cond (eqb n 4 || eqb n 5) 3 n
 
 -- ---- a box of doubles is three intervals
 -- of size at most x, both ends
-abbrev pub between : Float → Interval → Bool
-between x b = le (neg x) (b .lo) && le (b .lo) x && le (neg x) (b .hi) && le (b .hi) x
+abbrev pub endsWithin : Float → Interval → Bool
+endsWithin x b = le (neg x) (b .lo) && le (b .lo) x && le (neg x) (b .hi) && le (b .hi) x
 
 -- the greatest double
 abbrev pub greatestDouble : Float
@@ -49,4 +49,4 @@ every f w = f (boxAt w 0) && f (boxAt w 1) && f (boxAt w 2)
 
 -- no end is infinite
 unfoldable pub allFinite : List Interval → Bool
-allFinite w = every (between greatestDouble) w
+allFinite w = every (endsWithin greatestDouble) w

@@ -1,11 +1,11 @@
 // Boxes of doubles with no infinite end.
 ghost use mathlib.Core.Path.{_≡_};
-ghost use Rattle.gyroid.specs.Refusals.{between, greatestDouble, allFinite};
+ghost use Rattle.gyroid.specs.Refusals.{endsWithin, greatestDouble, allFinite};
 use interval::Interval;
 use interval::step::MAX;
 
 pub fn finite(b: Interval) -> bool
-    ensures { λ r. ⌜ r ≡ between greatestDouble b ⌝ }
+    ensures { λ r. ⌜ r ≡ endsWithin greatestDouble b ⌝ }
 {
     (-MAX <= b.lo) & (b.lo <= MAX) & (-MAX <= b.hi) & (b.hi <= MAX)
 }

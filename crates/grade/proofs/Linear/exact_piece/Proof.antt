@@ -6,15 +6,15 @@ use lib.Signed.{leZ}
 use lib.IntN.{pos}
 use Rattle.exact.proofs.Signed.{is, got, bit}
 use Rattle.grade.specs.Exact.{chosen, linearPiece}
-use Rattle.grade.proofs.Sizes.{at-corner-within}
+use Rattle.grade.proofs.Sizes.{least-along-within, greatest-along-within}
 use Rattle.grade.proofs.Linear.exact_piece.Statement.{statement}
 use Rattle.grade.proofs.Linear.exact_piece.Tie as tie
 
-at-corner-requires : tie.Need-at-corner-requires
-at-corner-requires c κs = search needs
+least-along-requires : tie.Need-least-along-requires
+least-along-requires c κs = search needs
 
-at-corner-requires-2 : tie.Need-at-corner-requires-2
-at-corner-requires-2 c κs = search needs
+greatest-along-requires : tie.Need-greatest-along-requires
+greatest-along-requires c κs = search needs
 
 returns : tie.Need-returns
 unfolding linearPiece
@@ -23,11 +23,11 @@ returns c =
     let c4 = c3 .before in
     let g = c4 .args .self in
     let p = c4 .pre in
-    let t = bit tt (got (c3 .at-corner .ensures) (at-corner-within g (p .0) (p .1 .0) (p .1 .1))) .same in
-    let u = bit tt (got (c .before .before .at-corner2 .ensures) (at-corner-within g (p .0) (p .1 .1) (p .1 .0))) .same in
+    let t = bit tt (got (c3 .least-along .ensures) (least-along-within g (p .0) (p .1 .0) (p .1 .1))) .same in
+    let u = bit tt (got (c .before .before .greatest-along .ensures) (greatest-along-within g (p .0) (p .1 .0) (p .1 .1))) .same in
     let l = bit tt (is (p .0 .length)) .same in
     c .chosen .ensures ∙ (λ k. chosen (leZ (u k) (pos 0)) (leZ (l k) (t k)) (leZ (pos 0) (t k) && leZ (u k) (l k)))
 
 pub exact-piece-spec : {M : Type 1} → statement M
 exact-piece-spec =
-    tie.close (tie.spec at-corner-requires at-corner-requires-2 (λ _ _. tt) returns)
+    tie.close (tie.spec least-along-requires greatest-along-requires (λ _ _. tt) returns)

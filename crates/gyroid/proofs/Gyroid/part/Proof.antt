@@ -10,7 +10,7 @@ use Rattle.gyroid.specs.declared.Gyroid.{Gyroid}
 use Rattle.gyroid.specs.declared.Turn.{Turn}
 use Rattle.gyroid.specs.declared.Shares.{Shares}
 use Rattle.gyroid.specs.declared.Part.{Part}
-use Rattle.gyroid.specs.Refusals.{between, greatestDouble}
+use Rattle.gyroid.specs.Refusals.{endsWithin, greatestDouble}
 use Rattle.gyroid.specs.Turn.{turn}
 use Rattle.gyroid.specs.Residual.{radius}
 use Rattle.gyroid.specs.Parts.{shares, part}
@@ -21,7 +21,7 @@ none-requires : tie.Need-none-requires
 none-requires c κs = search needs
 
 found : (g : Gyroid) (i : ℕ) (b : Interval) {q : Bool} {f x : Float} {m n s c : Interval} {t : Turn} {h : Shares}
-    → q ≡ between greatestDouble b
+    → q ≡ endsWithin greatestDouble b
     → not q ≡ false
     → f ≡ mid b
     → m ≡ point f
