@@ -12,7 +12,7 @@ use Rattle.interval.proofs.Small.{small-between}
 use Rattle.grade.specs.declared.PieceAnswer.{PieceAnswer}
 use Rattle.grade.specs.Grade.{Point, ticks}
 use Rattle.grade.specs.Exact.{compiled, exactPiece}
-use Rattle.grade.specs.Holds.{Inside, SaysLevel}
+use Rattle.grade.specs.Holds.{InBox, SaysLevel}
 use Rattle.grade.specs.Said.{found}
 use Rattle.grade.specs.Refusals.{refused, _orElse_, above}
 use Rattle.grade.specs.Fits.{DefFits, Within3}
@@ -55,7 +55,7 @@ piece-said PieceAnswer.None = refl
 pub piece-says : (d : Description) (lo hi : List ℤ) → refusal d ≡ 0 → PieceSays d lo hi (pieceAnswer (exactPiece (compiled (d .level)) lo hi))
 piece-says d lo hi e = go (exactPiece (compiled (d .level)) lo hi) (exact-piece-says (d .level) lo hi (accepted d e .0 .apart))
   where
-    go : (a : PieceAnswer) → ((q : Point) → Inside lo hi q → SaysLevel (d .level) q a) → PieceSays d lo hi (pieceAnswer a)
+    go : (a : PieceAnswer) → ((q : Point) → InBox lo hi q → SaysLevel (d .level) q a) → PieceSays d lo hi (pieceAnswer a)
     go (PieceAnswer.Found p) f = f
     go PieceAnswer.None f = tt
 

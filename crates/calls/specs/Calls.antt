@@ -141,7 +141,7 @@ levelPieceCall d lo hi = answered (levelPieceRefusal d lo hi) (pieceValues (exac
 -- of an accepted call a found piece says what the level is at every rational point of the box
 abbrev pub PieceSays : Description → List ℤ → List ℤ → LevelPieceAnswer → Type 0
 PieceSays d lo hi (LevelPieceAnswer.Refused n) = Unit {0}
-PieceSays d lo hi (LevelPieceAnswer.Found p) = (q : Point) → grade.Inside lo hi q → grade.SaysLevel (d .level) q (PieceAnswer.Found p)
+PieceSays d lo hi (LevelPieceAnswer.Found p) = (q : Point) → grade.InBox lo hi q → grade.SaysLevel (d .level) q (PieceAnswer.Found p)
 PieceSays d lo hi LevelPieceAnswer.None = Unit {0}
 
 -- ---- over a box of doubles

@@ -13,7 +13,7 @@ use Rattle.exact.proofs.Fraction.{≤F-refl, ≤F-trans, ≈F-refl, ≈F-trans,
 use Rattle.grade.specs.declared.Linear.{Linear}
 use Rattle.grade.specs.Grade.{at, minus, dot, Point, along}
 use Rattle.grade.specs.Exact.{leastEnd, greatestEnd, leastCorner, greatestCorner, leastAlong, greatestAlong}
-use Rattle.grade.specs.Holds.{Inside}
+use Rattle.grade.specs.Holds.{InBox}
 use Rattle.grade.proofs.Axes.{three}
 
 -- ---- one axis
@@ -49,7 +49,7 @@ along-whole from d c = ≈F-trans (add-congF (≈F-trans (add-congF (axis 0) (ax
     axis : (i : ℕ) → (whole (at c i) -F whole (at from i)) *F whole (at d i) ≈F whole ((at c i -ℤ at from i) *ℤ at d i)
     axis i = ≈F-trans (mul-congF (whole-sub (at c i) (at from i)) (≈F-refl (whole (at d i)))) (whole-mul (at c i -ℤ at from i) (at d i))
 
-module _ (g : Linear) (lo hi : List ℤ) (p : Point) (inside : Inside lo hi p) where
+module _ (g : Linear) (lo hi : List ℤ) (p : Point) (inside : InBox lo hi p) where
   axes : (i : ℕ) → i < 3 → ((whole (leastEnd (at (g .direction) i) (at lo i) (at hi i)) -F whole (at (g .from) i)) *F whole (at (g .direction) i) ≤F (p i -F whole (at (g .from) i)) *F whole (at (g .direction) i))
       × ((p i -F whole (at (g .from) i)) *F whole (at (g .direction) i) ≤F (whole (greatestEnd (at (g .direction) i) (at lo i) (at hi i)) -F whole (at (g .from) i)) *F whole (at (g .direction) i))
   axes i l = axis-between (p i) (at (g .from) i) (at (g .direction) i) (at lo i) (at hi i) (inside .above i l) (inside .below i l)

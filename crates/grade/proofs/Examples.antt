@@ -9,7 +9,7 @@ use Rattle.grade.specs.Grade.{inLimits, minus, dot, Point, level}
 use Rattle.grade.specs.Exact.{linearOf, constantDef, compiled, leastCorner, greatestCorner, leastAlong, greatestAlong, levelOver, linearRange, range}
 use Rattle.grade.specs.Refusals.{coincident}
 use Rattle.grade.specs.Fits.{InLimits}
-use Rattle.grade.specs.Holds.{Inside}
+use Rattle.grade.specs.Holds.{InBox}
 use Rattle.grade.specs.Marked.{along, G}
 use Rattle.grade.proofs.RangeLaws.{range-holds}
 
@@ -24,7 +24,7 @@ apart = tt
 three : whole (negsuc 13421772799) /F 104857600 ≈F whole (negsuc 127)
 three = ≈F-trans (over-whole (negsuc 13421772799) (lit< tt)) (record { eq = refl })
 
-quarter : (p : Point) → Inside (along (pos 2560)) (along (pos 2560)) p → level G p ≈F whole (negsuc 127)
+quarter : (p : Point) → InBox (along (pos 2560)) (along (pos 2560)) p → level G p ≈F whole (negsuc 127)
 unfolding minus dot linearOf constantDef compiled leastCorner greatestCorner leastAlong greatestAlong levelOver linearRange range
 quarter p inside =
     let (low, high) = range-holds G (along (pos 2560)) (along (pos 2560)) apart .holds p inside in

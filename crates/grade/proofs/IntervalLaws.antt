@@ -41,10 +41,10 @@ use Rattle.grade.proofs.LevelLaws.{level-linear, level-flat, affine-lin
 use Rattle.grade.proofs.PieceLaws.{chosen-says, says-level}
 
 -- ---- a tick in millimetres, a level count as a level
-unit-encloses : (k : ℕ) (z : ℤ) → T (leb k 1022) → natAbs z ≤ 2 ^ k * 1024 → In (suc k) (inUnits (whole z)) (unit z)
+pub unit-encloses : (k : ℕ) (z : ℤ) → T (leb k 1022) → natAbs z ≤ 2 ^ k * 1024 → In (suc k) (inUnits (whole z)) (unit z)
 unit-encloses k z t h = equal-in (≈F-sym (over-whole z (lit< tt))) (fraction-encloses k (ratio z 1024 (lit< tt)) t h)
 
-units-at : (v : List ℤ) (i : ℕ) → i < 3 → boxAt (units v) i ≡ unit (at v i)
+pub units-at : (v : List ℤ) (i : ℕ) → i < 3 → boxAt (units v) i ≡ unit (at v i)
 units-at v = three (λ i. boxAt (units v) i ≡ unit (at v i)) refl refl refl
 
 -- ---- t

@@ -12,6 +12,7 @@ pub mod PieceLaws
 pub mod IntervalLaws
 pub mod LinearLaws
 pub mod SlopeLaws
+pub mod AlikeLaws
 -- certification, planes
 pub mod AxisLaws
 pub mod CertifiedLaws

@@ -16,7 +16,7 @@ use Rattle.grade.specs.declared.PieceAnswer.the-variants.{Found, None}
 use Rattle.grade.specs.Grade.{isLinear, lengthSq, Point, t, rampLevel, level}
 use Rattle.grade.specs.Exact.{linearOf, numbers, constantDef, compiled, leastAlong, greatestAlong, chosen, linearPiece, exactPiece}
 use Rattle.grade.specs.Refusals.{coincident}
-use Rattle.grade.specs.Holds.{Inside, Says, SaysLevel, affineLevel}
+use Rattle.grade.specs.Holds.{InBox, Says, SaysLevel, affineLevel}
 use Rattle.grade.proofs.Entries.{both}
 use Rattle.grade.proofs.Accepted.{linear-apart, by-kind}
 use Rattle.grade.proofs.LevelLaws.{ramp-cong, ramp-zero, ramp-one, level-linear, level-flat, affine-linear, affine-flat, length-pos, over-length}
@@ -47,7 +47,7 @@ pub ramp-affine : (g : Grade) (p : Point) → SaysLevel g p (Found Ramp) → lev
 ramp-affine g p h = by-kind g (λ _. level g p ≈F affineLevel g p) (λ l. subst⁻¹ (λ (q : Fraction). level g p ≈F q) (affine-linear g p l) h) (λ u. ≈F-trans (level-flat g p u) (≈F-sym (affine-flat g p u)))
 
 -- ---- the exact piece
-module _ (g : Grade) (apart : pos 0 <ℤ lengthSq g) (lo hi : List ℤ) (p : Point) (inside : Inside lo hi p) where
+module _ (g : Grade) (apart : pos 0 <ℤ lengthSq g) (lo hi : List ℤ) (p : Point) (inside : InBox lo hi p) where
   below : (z : ℤ) → T (leZ (greatestAlong (numbers g) lo hi) z) → t g p ≤F whole z /F natAbs (lengthSq g)
   unfolding t linearOf
   below z u = over-mono (length-pos g apart) (≤F-trans (along-greatest (numbers g) lo hi p inside) (whole-le (leZ-yes u)))
@@ -70,7 +70,7 @@ module _ (g : Grade) (apart : pos 0 <ℤ lengthSq g) (lo hi : List ℤ) (p : Poi
       greatest = greatestAlong (numbers g) lo hi
 
 -- THE FACT
-pub exact-piece-says : (g : Grade) (lo hi : List ℤ) → T (not (coincident g)) → (p : Point) → Inside lo hi p → SaysLevel g p (exactPiece (compiled g) lo hi)
+pub exact-piece-says : (g : Grade) (lo hi : List ℤ) → T (not (coincident g)) → (p : Point) → InBox lo hi p → SaysLevel g p (exactPiece (compiled g) lo hi)
 unfolding exactPiece constantDef
 exact-piece-says g lo hi apart p inside = by-kind g (λ G. SaysLevel g p (exactPiece G lo hi))
     (λ l. says-level g p l (linearPiece (numbers g) lo hi) (linear-piece-says g (linear-apart g l apart) lo hi p inside))

@@ -19,7 +19,7 @@ use Rattle.grade.specs.declared.Planes.{Planes}
 use Rattle.grade.specs.Grade.{at, Point, isLinear, direction, lengthSq, t, rampLevel, level}
 
 -- ---- a rational point of a box of whole ticks, its faces included
-pub record Inside (lo hi : List ℤ) (p : Point) : Type 0 where
+pub record InBox (lo hi : List ℤ) (p : Point) : Type 0 where
   pub above : (i : ℕ) → i < 3 → whole (at lo i) ≤F p i
   pub below : (i : ℕ) → i < 3 → p i ≤F whole (at hi i)
 
@@ -36,7 +36,7 @@ fraction b z = whole z /F natAbs (b .over)
 
 pub record RangeHolds (g : Grade) (lo hi : List ℤ) (b : Bounds) : Type 0 where
   pub ordered : b .low ≤ℤ b .high
-  pub holds : (p : Point) → Inside lo hi p → (fraction b (b .low) ≤F level g p) × (level g p ≤F fraction b (b .high))
+  pub holds : (p : Point) → InBox lo hi p → (fraction b (b .low) ≤F level g p) × (level g p ≤F fraction b (b .high))
   pub low-taken : Taken g lo hi (fraction b (b .low))
   pub high-taken : Taken g lo hi (fraction b (b .high))
 

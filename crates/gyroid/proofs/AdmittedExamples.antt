@@ -16,13 +16,13 @@ use Rattle.grade.specs.Grade as grade
 use Rattle.grade.specs.Grade.{at, ticks, minus, dot, Point, along, t, level}
 use Rattle.grade.specs.Exact.{linearOf, constantDef, compiled}
 use Rattle.grade.specs.Certified.{axis, distance, rise, linearCertification, certification}
-use Rattle.grade.specs.Holds.{Inside}
+use Rattle.grade.specs.Holds.{InBox}
 use Rattle.grade.proofs.Axes.{three}
 use Rattle.gyroid.specs.declared.Description.{Description}
 use Rattle.gyroid.specs.Description.{inLimits, frameInLimits, partFrame}
 use Rattle.gyroid.specs.Refusals.{refusal}
 use Rattle.gyroid.specs.Fits.{Accepted}
-use Rattle.gyroid.specs.Admitted.{tickBox, sinePolynomial, cosinePolynomial, sineTail, cosineTail, turned, Chosen, quarter, waves, admitted}
+use Rattle.gyroid.specs.Admitted.{tickBox, sinePolynomial, cosinePolynomial, sineTail, cosineTail, turnedBy, Chosen, quarter, waves, admitted}
 
 abbrev description : Description
 description = record {
@@ -91,12 +91,12 @@ place zero = ratio (pos 5241) 7 (lit< tt)
 place (suc zero) = ratio (pos 1501) 1 (lit< tt)
 place (suc (suc i)) = ratio (negsuc 2244) 3 (lit< tt)
 
-place-inside : Inside lows highs place
+place-inside : InBox lows highs place
 place-inside = record {
   above = three (λ i. whole (at lows i) ≤F place i) (record { le = leZ-yes tt }) (record { le = leZ-yes tt }) (record { le = leZ-yes tt });
   below = three (λ i. place i ≤F whole (at highs i)) (record { le = leZ-yes tt }) (record { le = leZ-yes tt }) (record { le = leZ-yes tt });
 }
 
 worked : admitted description lows highs chosen place ≈F ratio (negsuc 3365019240659292241864788064448494962193758335891209804353945609268418906725240319281088369331298902437932097193040401161966649498145886514660062444357135543940577101472071936032918336783631996610010411137712302622124746626189279070246104824811412916195858954562497784823215851721941754021258653371009737199622486339777023192418397007463114310163264502541544218463000856991096136791758226918882753119415782) 4072534404815028044062559070606464689805027151055716675470784334748827469412966303584162543254493039081290503651438957808431989410764292244292756598295121800554710604115172645927550362602042878074069487809379681178463170104843416434030441353540868190290163508969707644173888731147584714040825212678089861682518845061549972452752399476594291627407073974609375000000000000000000000000000000000000000000000000 (lit< tt)
-unfolding chosen ofBits toBits isNan neg add mul lt round nextUp nextDown product mid fromRational quarterNumber _+F_ _-F_ _*F_ _/F_ negF minF maxF heldF minus dot along t level turned sinePolynomial cosinePolynomial waves admitted
+unfolding chosen ofBits toBits isNan neg add mul lt round nextUp nextDown product mid fromRational quarterNumber _+F_ _-F_ _*F_ _/F_ negF minF maxF heldF minus dot along t level turnedBy sinePolynomial cosinePolynomial waves admitted
 worked = record { eq = refl }

@@ -23,7 +23,7 @@ use Rattle.interval.proofs.Membership.{In, high, between, equal-in, point-enclo
 use Rattle.interval.proofs.Encloses.{sub-encloses}
 use Rattle.grade.specs.Grade.{at, Point}
 use Rattle.grade.specs.Fits.{Within3}
-use Rattle.grade.specs.Holds.{Inside, inUnits}
+use Rattle.grade.specs.Holds.{InBox, inUnits}
 use Rattle.grade.proofs.AxisLaws.{within-at}
 use Rattle.gyroid.specs.Residual.{radius}
 use Rattle.gyroid.specs.Admitted.{centreAt, halfWidth, ends}
@@ -37,10 +37,10 @@ less-half x y = ≈F-trans (sub-congF (≈F-sym (doubled y)) (≈F-refl ((x +F y
     (over-cong (lit< tt) (ringF 2 (λ x y. y ⊕ y ⊖ (x ⊕ y)) (λ x y. y ⊖ x) tt (x ∷ y ∷ []))))
 
 -- ---- ticks
-over-binary : (z : ℤ) → binary z 10 ≈F inUnits (whole z)
+pub over-binary : (z : ℤ) → binary z 10 ≈F inUnits (whole z)
 over-binary z = ≈F-sym (over-whole z (pow-pos 10))
 
-tick-exact : {z : ℤ} → Within 1048576 z → T (finite (nearest z 1024)) × (value (nearest z 1024) ≈F binary z 10)
+pub tick-exact : {z : ℤ} → Within 1048576 z → T (finite (nearest z 1024)) × (value (nearest z 1024) ≈F binary z 10)
 tick-exact {z} h = nearest-exact 10 z tt (below (natAbs z) (h .abs))
   where
     below : (n : ℕ) → n ≤ 1048576 → n < 2 ^ 53
@@ -106,7 +106,7 @@ module _ (lo hi : List ℤ) (low-in : Within3 1048576 lo) (high-in : Within3 104
       (≤F-trans (high above) (greatest-left x y (small-finite 12 x (above .small-hi)) (small-finite 12 y (below .small-hi))))
 
   -- ---- a point of the box
-  module _ (p : Point) (inside : Inside lo hi p) where
+  module _ (p : Point) (inside : InBox lo hi p) where
     -- |p − m| ≤ r
     pub offset : AbsF (p i -F centreAt lo hi i) (halfWidth lo hi i)
     offset = record {

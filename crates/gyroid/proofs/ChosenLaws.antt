@@ -17,7 +17,7 @@ use Rattle.interval.specs.Interval.{twoPi}
 use Rattle.interval.specs.Encloses.{value, _∈_}
 use Rattle.grade.specs.Grade.{at, Point, ticks}
 use Rattle.grade.specs.Refusals.{above}
-use Rattle.grade.specs.Holds.{Inside}
+use Rattle.grade.specs.Holds.{InBox}
 use Rattle.grade.proofs.Entries.{not-either}
 use Rattle.grade.proofs.Axes.{three}
 use Rattle.gyroid.specs.declared.Description.{Description}
@@ -68,7 +68,7 @@ chosen d lo hi = record {
     r i = halfWidth lo hi i
 
 -- ---- a point of a box whose lows are not above its highs: its lowest corner
-pub corner-inside : (lo hi : List ℤ) → T (not (above lo hi)) → Inside lo hi (λ i. whole (at lo i))
+pub corner-inside : (lo hi : List ℤ) → T (not (above lo hi)) → InBox lo hi (λ i. whole (at lo i))
 corner-inside lo hi t =
     let (s, z) = not-either (ltZ (at hi 0) (at lo 0) || ltZ (at hi 1) (at lo 1)) (ltZ (at hi 2) (at lo 2)) t in
     let (x, y) = not-either (ltZ (at hi 0) (at lo 0)) (ltZ (at hi 1) (at lo 1)) s in

@@ -16,7 +16,7 @@ use Rattle.interval.proofs.Membership.{In, wider, above-zero, below-zero}
 use Rattle.grade.specs.Grade.{Point, ticks, level}
 use Rattle.grade.specs.Intervals.{boxAt}
 use Rattle.grade.specs.Fits.{Within3}
-use Rattle.grade.specs.Holds.{Inside, inUnits}
+use Rattle.grade.specs.Holds.{InBox, inUnits}
 use Rattle.grade.proofs.Entries.{ticks-within}
 use Rattle.grade.proofs.Axes.{three}
 use Rattle.gyroid.specs.declared.Description.{Description}
@@ -34,7 +34,7 @@ use Rattle.gyroid.proofs.ResidualLaws.{Has, equal-has, residual-has}
 
 module _ (d : Description) (passed : Passed d) (lo hi : List ℤ) (low-in : Within3 1048576 lo) (high-in : Within3 1048576 hi) where
   -- ---- the box and its centre in millimetres hold the point and the exact centre
-  box-in : (p : Point) → Inside lo hi p → (i : ℕ) → i < 3 → In 40 (inUnits (p i)) (boxAt (tickBox lo hi) i)
+  box-in : (p : Point) → InBox lo hi p → (i : ℕ) → i < 3 → In 40 (inUnits (p i)) (boxAt (tickBox lo hi) i)
   box-in p inside = three (λ i. In 40 (inUnits (p i)) (boxAt (tickBox lo hi) i)) (entry 0 (lit< tt)) (entry 1 (lit< tt)) (entry 2 (lit< tt))
     where
       entry : (i : ℕ) → i < 3 → In 40 (inUnits (p i)) (ends lo hi i)
@@ -44,8 +44,8 @@ module _ (d : Description) (passed : Passed d) (lo hi : List ℤ) (low-in : With
   unfolding centre
   middle-in = three (λ i. In 40 (inUnits (centreAt lo hi i)) (boxAt (centre (tickBox lo hi)) i)) (wider 40 tt (centre-in lo hi low-in high-in 0 (lit< tt))) (wider 40 tt (centre-in lo hi low-in high-in 1 (lit< tt))) (wider 40 tt (centre-in lo hi low-in high-in 2 (lit< tt)))
 
-  module _ (h : Chosen d lo hi) (p : Point) (inside : Inside lo hi p) where
-    centre-inside : Inside lo hi (centreAt lo hi)
+  module _ (h : Chosen d lo hi) (p : Point) (inside : InBox lo hi p) where
+    centre-inside : InBox lo hi (centreAt lo hi)
     centre-inside = record { above = λ i b. centre-above lo hi low-in high-in i b p inside; below = λ i b. centre-below lo hi low-in high-in i b p inside }
 
     abbrev f : ℕ → Fraction
@@ -80,7 +80,7 @@ module _ (d : Description) (none : Accepted d) (lo hi : List ℤ) (low-ticks : T
   pub residual-holds : Holds d lo hi (residual (leaf d) (tickBox lo hi))
   residual-holds = go (residual (leaf d) (tickBox lo hi)) (λ p inside h. admitted-has d (accepted d (none .none) .0) lo hi (ticks-within lo low-ticks) (ticks-within hi high-ticks) h p inside)
     where
-      go : (r : Residual) → ((p : Point) → Inside lo hi p → (h : Chosen d lo hi) → Has r (admitted d lo hi h p)) → Holds d lo hi r
+      go : (r : Residual) → ((p : Point) → InBox lo hi p → (h : Chosen d lo hi) → Has r (admitted d lo hi h p)) → Holds d lo hi r
       go (Residual.Enclosure l u) f = f
       go Residual.None f = tt
 

@@ -41,7 +41,7 @@ module _ (d : Description) (above : pos 0 <ℤ d .period) where
   abbrev pub perMillimetre : Fraction
   perMillimetre = ratio (pos 1024) (natAbs (d .period)) (size-above above)
 
-  turns-in : In 11 perMillimetre (turns d)
+  pub turns-in : In 11 perMillimetre (turns d)
   turns-in = fraction-encloses 10 perMillimetre tt (room (natAbs (d .period)) (size-above above))
     where
       room : (a : ℕ) → 0 < a → 1024 ≤ 2 ^ 10 * a

@@ -16,8 +16,9 @@ mod ExpansionLaws
 mod ResidualLaws
 -- one axis at a time: the three parts of a box joined are its residual
 pub mod PartLaws
--- boxes with an infinite end
+-- boxes with an infinite end, and boxes with a zero of either sign
 pub mod InfiniteLaws
+pub mod AlikeLaws
 -- what the proofs of the code cite
 mod TurnSizes
 -- worked by computation

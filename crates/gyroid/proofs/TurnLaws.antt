@@ -35,7 +35,7 @@ use Rattle.gyroid.specs.declared.Turn.{Turn}
 use Rattle.gyroid.specs.Leaf.{leaf}
 use Rattle.gyroid.specs.Turn as float
 use Rattle.gyroid.specs.Turn.{turn, reducible, reduced, beyond, horner, symmetric, sineAt, cosineAt}
-use Rattle.gyroid.specs.Admitted.{polynomial, sinePolynomial, cosinePolynomial, sineTail, cosineTail, turned}
+use Rattle.gyroid.specs.Admitted.{polynomial, sinePolynomial, cosinePolynomial, sineTail, cosineTail, turnedBy}
 
 -- ---- `two_pi`
 two-pi-low : Small 3 (twoPi .lo)
@@ -123,8 +123,8 @@ abbrev pub Sound : Turn → Fraction × Fraction → Type 0
 Sound (Turn.Found s c) x = In 36 (x .0) s × In 36 (x .1) c
 Sound Turn.None x = Unit {0}
 
-turned-in : (n : ℕ) {s c : Fraction} {S C : Interval} → In 36 s S → In 36 c C → Sound (float.turned n S C) (turned n s c)
-unfolding turned float.turned
+turned-in : (n : ℕ) {s c : Fraction} {S C : Interval} → In 36 s S → In 36 c C → Sound (float.turned n S C) (turnedBy n s c)
+unfolding turnedBy float.turned
 turned-in n {s} {c} {S} {C} h k = go (eqb n 0) (eqb n 1) (eqb n 2)
   where
     go : (x y z : Bool) → Sound (cond x (Turn.Found S C) (cond y (Turn.Found C (negation S)) (cond z (Turn.Found (negation S) (negation C)) (Turn.Found (negation C) S)))) (cond x (s, c) (cond y (c, negF s) (cond z (negF s, negF c) (negF c, s))))
@@ -148,11 +148,11 @@ module _ (d : Description) {t w : Fraction} {I : Interval} (h : In 23 t I) (betw
   unfolding cosinePolynomial cosineAt leaf
   cosine-in h = wider 36 tt (add-encloses tt (horner-in cosineTerm cosine-encloses (square-encloses tt h)) (tail-in 18 f-within))
 
-  pub turn-holds : Sound (turn (leaf d) I) (turned (modFour (quarterNumber (mid I))) (sinePolynomial u +F e) (cosinePolynomial u +F f))
+  pub turn-holds : Sound (turn (leaf d) I) (turnedBy (modFour (quarterNumber (mid I))) (sinePolynomial u +F e) (cosinePolynomial u +F f))
   unfolding turn leaf
   turn-holds = go (not (reducible I)) (beyond U) (λ near. near-in (reduced-in h between) near)
     where
-      go : (x y : Bool) → (T (not y) → In 0 u U) → Sound (cond x Turn.None (cond y Turn.None (float.turned (modFour (quarterNumber (mid I))) (sineAt (leaf d) U) (cosineAt (leaf d) U)))) (turned (modFour (quarterNumber (mid I))) (sinePolynomial u +F e) (cosinePolynomial u +F f))
+      go : (x y : Bool) → (T (not y) → In 0 u U) → Sound (cond x Turn.None (cond y Turn.None (float.turned (modFour (quarterNumber (mid I))) (sineAt (leaf d) U) (cosineAt (leaf d) U)))) (turnedBy (modFour (quarterNumber (mid I))) (sinePolynomial u +F e) (cosinePolynomial u +F f))
       go true y n = tt
       go false true n = tt
       go false false n = turned-in (modFour (quarterNumber (mid I))) (sine-in (n tt)) (cosine-in (n tt))

@@ -1,20 +1,41 @@
 -- THE ADMITTED RESIDUAL: document 01's paragraph in "Jet and residual", sentence by sentence, its words in quotes; and what a residual and a
 -- state say of all of them. Lengths are in ticks, levels in level counts. "These .. are fractions of whole numbers, as p is, and comparisons
 -- are multiplied out." Definitions only; assumes nothing.
+--
+-- The number, in document 01's symbols:
+--
+--     g + k[(cx·cy−sz·sx)(px−mx) + (cy·cz−sx·sy)(py−my) + (cz·cx−sy·sz)(pz−mz)] + e − level(p)/1024        admitted
+--
+--     p        a rational point of the box                                                               p : Point
+--     m, r     the box's centre and half-widths                                                          centreAt, halfWidth
+--     a        the period                                                                                period
+--     w        any fraction between the `two_pi` ends                                                    Chosen .w
+--     k        w/a                                                                                       wave
+--     q        the quarter number that `turn` gives at m                                                 quarter
+--     u        (m/a − q/4)w                                                                              angle
+--     s, c     the polynomials of u plus errors, turned by q mod 4                                       s, c (waves, turnedBy)
+--     errors   any within the tails (4/5)^19/19! and (4/5)^18/18!                                        Chosen .sine-error, .cosine-error
+--     g        sx·cy + sy·cz + sz·cx                                                                     g
+--     (..)     what k(p−m) is multiplied by on each axis                                                 factor
+--     e        any of size at most k²(Σ r² + rx·ry + ry·rz + rz·rx)                                      Chosen .e (bracket)
+--     level    in level counts                                                                           level, of the grade layer
 use mathlib.Core.Bool.{cond}
 use mathlib.Core.List.{List, [], _∷_}
 use Prim.Native.Nat.{ℕ, zero, suc, _<_}
-use lib.Dec.{eqb}
+use lib.Dec.{T, eqb}
 use lib.IntN.{ℤ, natAbs, _+ℤ_, _-ℤ_}
-use Rattle.exact.specs.Fraction.{Fraction, whole, zeroF, oneF, _+F_, _-F_, _*F_, _/F_, negF, _<F_, AbsF}
+use lib.Ieee.{Float}
+use lib.Ieee.Scale.{finite}
+use Rattle.exact.specs.Fraction.{Fraction, whole, zeroF, oneF, _+F_, _-F_, _*F_, _/F_, negF, _<F_, _≈F_, AbsF}
 use Rattle.interval.specs.declared.Interval.{Interval}
 use Rattle.interval.specs.Interval.{point, product, mid, twoPi}
 use Rattle.interval.specs.Nearest.{nearest}
 use Rattle.interval.specs.Floor.{modFour}
 use Rattle.interval.specs.Series.{sineTerm, cosineTerm, tail}
-use Rattle.interval.specs.Encloses.{_∈_}
+use Rattle.interval.specs.Encloses.{value, _∈_}
 use Rattle.grade.specs.Grade.{at, Point, level}
-use Rattle.grade.specs.Holds.{Inside}
+use Rattle.grade.specs.Intervals.{boxAt}
+use Rattle.grade.specs.Holds.{InBox}
 use Rattle.gyroid.specs.declared.Description.{Description}
 use Rattle.gyroid.specs.declared.Residual.{Residual}
 use Rattle.gyroid.specs.declared.State.{State}
@@ -34,6 +55,15 @@ ends lo hi i = record { lo = nearest (at lo i) 1024; hi = nearest (at hi i) 1024
 
 abbrev pub tickBox : List ℤ → List ℤ → List Interval
 tickBox lo hi = ends lo hi 0 ∷ ends lo hi 1 ∷ ends lo hi 2 ∷ []
+
+-- and any box with those ends: a zero among them may have either sign, for "zeros of either sign are alike"
+pub record AtTick (x : Float) (n : ℤ) : Type 0 where
+  pub finite : T (finite x)
+  pub value : value x ≈F whole n /F 1024
+
+pub record OfTicks (lo hi : List ℤ) (w : List Interval) : Type 0 where
+  pub lows : (i : ℕ) → i < 3 → AtTick (boxAt w i .lo) (at lo i)
+  pub highs : (i : ℕ) → i < 3 → AtTick (boxAt w i .hi) (at hi i)
 
 -- ---- "the exact polynomials": f 0 + f 1 · x + .. + f n · xⁿ
 abbrev pub power : Fraction → ℕ → Fraction
@@ -59,8 +89,8 @@ abbrev pub cosineTail : Fraction
 cosineTail = tail 18
 
 -- "turned by q mod 4": a sine and a cosine
-unfoldable pub turned : ℕ → Fraction → Fraction → Fraction × Fraction
-turned n s c =
+unfoldable pub turnedBy : ℕ → Fraction → Fraction → Fraction × Fraction
+turnedBy n s c =
     cond (eqb n 0) (s, c)
     (cond (eqb n 1) (c, negF s)
     (cond (eqb n 2) (negF s, negF c)
@@ -101,7 +131,7 @@ module _ (d : Description) (lo hi : List ℤ) where
 
   -- "s and c are the exact polynomials plus errors, turned by q mod 4"
   unfoldable pub waves : Chosen → ℕ → Fraction × Fraction
-  waves h i = turned (modFour (quarter i)) (sinePolynomial (angle (h .w) i) +F h .sine-error i) (cosinePolynomial (angle (h .w) i) +F h .cosine-error i)
+  waves h i = turnedBy (modFour (quarter i)) (sinePolynomial (angle (h .w) i) +F h .sine-error i) (cosinePolynomial (angle (h .w) i) +F h .cosine-error i)
 
   abbrev pub s : Chosen → ℕ → Fraction
   s h i = waves h i .0
@@ -129,17 +159,17 @@ module _ (d : Description) (lo hi : List ℤ) where
 
   -- ---- what an answer says: "every enclosure that holds them all", at every rational point of the box, its faces included
   abbrev pub Holds : Residual → Type 0
-  Holds (Residual.Enclosure low high) = (p : Point) → Inside lo hi p → (h : Chosen) → admitted h p ∈ record { lo = low; hi = high }
+  Holds (Residual.Enclosure low high) = (p : Point) → InBox lo hi p → (h : Chosen) → admitted h p ∈ record { lo = low; hi = high }
   Holds Residual.None = Unit {0}
 
   abbrev pub Settles : State → Type 0
-  Settles State.Inside = (p : Point) → Inside lo hi p → (h : Chosen) → admitted h p <F zeroF
-  Settles State.Outside = (p : Point) → Inside lo hi p → (h : Chosen) → zeroF <F admitted h p
+  Settles State.Inside = (p : Point) → InBox lo hi p → (h : Chosen) → admitted h p <F zeroF
+  Settles State.Outside = (p : Point) → InBox lo hi p → (h : Chosen) → zeroF <F admitted h p
   Settles State.Unsettled = Unit {0}
 
   -- some admitted residual of the box has the property P
   pub record Some (P : Fraction → Type 0) : Type 0 where
     pub p : Point
-    pub inside : Inside lo hi p
+    pub inside : InBox lo hi p
     pub chosen : Chosen
     pub says : P (admitted chosen p)

@@ -81,11 +81,11 @@ lt-le x y h = go (lt x y) (eq x y) h
     go false v t = absurd t
 
 -- ---- x ≤ y fails where one is a NaN and where x is above y, and nowhere else
-alike : (b c : Bool) → (T b → T c) → (T c → T b) → b ≡ c
-alike true true f g = refl
-alike true false f g = absurd (f tt)
-alike false true f g = absurd (g tt)
-alike false false f g = refl
+pub equal-tests : (b c : Bool) → (T b → T c) → (T c → T b) → b ≡ c
+equal-tests true true f g = refl
+equal-tests true false f g = absurd (f tt)
+equal-tests false true f g = absurd (g tt)
+equal-tests false false f g = refl
 
 module _ (a b : ℕ) where
   same : a ≤ b → b ≤ a → T (eqb a b)
@@ -105,7 +105,7 @@ level-yes false true a b h k = both-yes (eqb a b) (eqb a 0) (same a b (omega ari
 level-yes true false a b h k = both-yes (eqb a b) (eqb a 0) (same a b (omega arith) (omega arith)) (same a 0 (omega arith) (omega arith))
 
 sizes-le : (s t : Bool) (a b : ℕ) → (below s a t b || level s a t b) ≡ not (below t b s a)
-sizes-le s t a b = alike (below s a t b || level s a t b) (not (below t b s a))
+sizes-le s t a b = equal-tests (below s a t b || level s a t b) (not (below t b s a))
     (λ h. not-T (below t b s a) (λ k. apart (at-most (below s a t b) (level s a t b) (lt-sizes s t a b) (eq-sizes s t a b) h) (lt-sizes t s b a k)))
     (λ h. some (below s a t b) (nlt-sizes s t a b) (nlt-sizes t s b a h))
   where

@@ -15,6 +15,7 @@ pub mod SeriesLaws
 pub mod Rank
 pub mod Order
 pub mod Ordered
+pub mod Alike
 pub mod InOrder
 mod Signs
 mod Pattern

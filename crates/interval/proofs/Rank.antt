@@ -18,7 +18,7 @@ use lib.Ieee.Fits.{cond-fits, neg-fits}
 use lib.Ieee.Scale.{finite}
 use Rattle.exact.specs.Fraction.{ratio, _≤F_, _<F_, _≈F_}
 use Rattle.exact.proofs.IntegerOrder.{zarith, ≤ℤ-antisym, ≤ℤ-<ℤ-trans, <ℤ-le, le-or-lt, negation-parts}
-use Rattle.exact.proofs.Fraction.{≤F-trans, ≤F-<F-trans, <F-≤F-trans, <F-irrefl, ≈F-le, ≈F-ge}
+use Rattle.exact.proofs.Fraction.{≤F-trans, ≤F-<F-trans, <F-≤F-trans, <F-irrefl, ≈F-le, ≈F-ge, ≈F-sym, ≈F-trans}
 use Rattle.exact.proofs.Fraction.{neg-lt, neg-monoF, neg-negF, same-den-le, same-den-lt, lt-same-den}
 use Rattle.interval.specs.Step.{b64, nextUp, nextDown}
 use Rattle.interval.specs.Encloses.{signed, value}
@@ -69,13 +69,19 @@ at-of x s b h q e =
     let f = quanta-finite x s (val b) (val-lt b h) q in
     record { finite = f; same = subst (λ (z : ℤ). value x ≈F ratio z quantum (pow-pos 1074)) e (quanta-value x s (val b) f q) }
 
--- a double's rank, and that of the next double above; above the last rank stands the infinity
+-- the double above the one of the rank r, by its bits
+abbrev bitsAbove : ℤ → Float
+bitsAbove (pos b) = ofBits binary64 (withSign false (b + 1))
+bitsAbove (negsuc b) = ofBits binary64 (withSign true b)
+
+-- a double's rank, and that of the next double above, whose bits follow from it; above the last rank stands the infinity
 pub record Ranked (x : Float) : Type 0 where
   pub rank : ℤ
   pub here : At x rank
   pub cap : rank <ℤ pos 0x7ff0_0000_0000_0000
   pub next : sucℤ rank <ℤ pos 0x7ff0_0000_0000_0000 → At (nextUp x) (sucℤ rank)
   pub last : pos 0x7ff0_0000_0000_0000 ≤ℤ sucℤ rank → nextUp x ≡ inf false
+  pub up : nextUp x ≡ bitsAbove rank
 
 pattern-of-infinity : ofBits binary64 0x7ff0_0000_0000_0000 ≡ inf false
 unfolding ofBits
@@ -104,6 +110,7 @@ ranked x h f = let w = finite-pattern x h f in go (w .0) (w .1) (w .2) (w .3) (w
       next = λ k. by-bits (nextUp x) false (suc b) (ltb→lt (suc b) 0x7ff0_0000_0000_0000 (k .lt))
           (up-away x false b n e l tt ∙ ap (λ (j : ℕ). ofBits binary64 (withSign false j)) (add-one b)) refl;
       last = λ k. up-away x false b n e l tt ∙ ap (ofBits binary64) (full b l k) ∙ pattern-of-infinity;
+      up = up-away x false b n e l tt;
     }
     go true zero l q e = record {
       rank = pos 0;
@@ -111,6 +118,7 @@ ranked x h f = let w = finite-pattern x h f in go (w .0) (w .1) (w .2) (w .3) (w
       cap = ltZ-yes tt;
       next = λ k. by-bits (nextUp x) false 1 (lit< tt) (up-away x true 0 n e l refl) refl;
       last = λ k. absurd (k .le);
+      up = up-away x true 0 n e l refl;
     }
     go true (suc zero) l q e = record {
       rank = negsuc 0;
@@ -118,6 +126,7 @@ ranked x h f = let w = finite-pattern x h f in go (w .0) (w .1) (w .2) (w .3) (w
       cap = ltZ-yes tt;
       next = λ k. by-bits (nextUp x) true 0 (lit< tt) (up-toward x 0 n e) refl;
       last = λ k. absurd (k .le);
+      up = up-toward x 0 n e;
     }
     go true (suc (suc b)) l q e = record {
       rank = negsuc (suc b);
@@ -125,6 +134,7 @@ ranked x h f = let w = finite-pattern x h f in go (w .0) (w .1) (w .2) (w .3) (w
       cap = ltZ-yes tt;
       next = λ k. by-bits (nextUp x) true (suc b) (less (suc b) l) (up-toward x (suc b) n e) refl;
       last = λ k. absurd (k .le);
+      up = up-toward x (suc b) n e;
     }
 
 below-suc : (r : ℤ) → r <ℤ sucℤ r
@@ -170,6 +180,19 @@ up-fits x h =
     (cond-fits binary64 (eqb n 0) (b64 1) _ (ofBits-fits binary64 1)
     (cond-fits binary64 (eqb n 0x8000_0000_0000_0000) (b64 1) _ (ofBits-fits binary64 1)
     (cond-fits binary64 (ltb n 0x8000_0000_0000_0000) (b64 (n + 1)) (b64 (n - 1)) (ofBits-fits binary64 (n + 1)) (ofBits-fits binary64 (n - 1))))))
+
+-- ---- doubles of one value, the two zeros among them, have one double above
+pub up-same : (x y : Float) → T (fits binary64 x) → T (fits binary64 y) → T (finite x) → T (finite y) → value x ≈F value y → nextUp x ≡ nextUp y
+up-same x y hx hy fx fy e =
+    let a = ranked x hx fx in
+    let b = ranked y hy fy in
+    a .up ∙ ap bitsAbove (one-rank (a .rank) (b .rank) (≈F-trans (≈F-sym (a .here .same)) (≈F-trans e (b .here .same)))) ∙ sym (b .up)
+  where
+    one-rank : (r t : ℤ) → ratio (quantaAt r) quantum (pow-pos 1074) ≈F ratio (quantaAt t) quantum (pow-pos 1074) → r ≡ t
+    one-rank r t q = elim (le-or-lt r t) [
+      | inr l ↦ absurd (<F-irrefl (same-den-lt (at-mono l)) (≈F-le q))
+      | inl h ↦ elim (le-or-lt t r) [ inl k ↦ ≤ℤ-antisym h k | inr l ↦ absurd (<F-irrefl (same-den-lt (at-mono l)) (≈F-ge q)) ]
+    ]
 
 -- ---- the greatest double: where no double is above x, the next above is the infinity
 abbrev Greatest : Float → Type 0

@@ -11,7 +11,7 @@ use lib.ListN.{length}
 use lib.Signed.{_≤ℤ_, _<ℤ_}
 use Rattle.exact.specs.Fraction.{zeroF, _<F_}
 use Rattle.grade.specs.Grade.{Point}
-use Rattle.grade.specs.Holds.{Inside}
+use Rattle.grade.specs.Holds.{InBox}
 use Rattle.gyroid.specs.declared.Description.{Description}
 use Rattle.gyroid.specs.declared.State.the-variants.{Unsettled}
 use Rattle.gyroid.specs.Fits.{Accepted}
@@ -59,10 +59,10 @@ pub record Supposed (d : Description) (lo hi : List ℤ) (D : ℤ) (len : ℕ) :
 module _ (d : Description) where
   -- "its admitted residuals are those with its own centre and half-widths", at a rational point of a cell, "faces included"
   abbrev pub AllBelowZero : Box → Type 0
-  AllBelowZero b = (p : Point) → Inside (lows b) (highs b) p → (h : Chosen d (lows b) (highs b)) → admitted d (lows b) (highs b) h p <F zeroF
+  AllBelowZero b = (p : Point) → InBox (lows b) (highs b) p → (h : Chosen d (lows b) (highs b)) → admitted d (lows b) (highs b) h p <F zeroF
 
   abbrev pub AllAboveZero : Box → Type 0
-  AllAboveZero b = (p : Point) → Inside (lows b) (highs b) p → (h : Chosen d (lows b) (highs b)) → zeroF <F admitted d (lows b) (highs b) h p
+  AllAboveZero b = (p : Point) → InBox (lows b) (highs b) p → (h : Chosen d (lows b) (highs b)) → zeroF <F admitted d (lows b) (highs b) h p
 
   -- the residual does not settle the cell's box, "and it stands at depth D or is one tick cube"
   pub record Undecided (D : ℕ) (c : Cell) : Type 0 where
