@@ -1,8 +1,9 @@
 -- What the proofs of the public calls share: what a call owes the functions that it calls, and what its answer says. Assumes nothing.
-use mathlib.Core.Path.{_≡_, refl, subst⁻¹}
-use mathlib.Core.Bool.{not, _&&_}
-use mathlib.Core.List.{List}
-use lib.Dec.{T}
+use mathlib.Core.Path.{_≡_, refl, ap, subst⁻¹}
+use mathlib.Core.Bool.{Bool, true, false, cond, not, _&&_}
+use mathlib.Core.List.{List, [], _∷_}
+use Prim.Native.Nat.{ℕ}
+use lib.Dec.{T, eqb}
 use lib.IntN.{ℤ}
 use lib.Ieee.{Float, neg, le, ofBits}
 use Rattle.interval.specs.declared.Interval.{Interval}
@@ -13,7 +14,7 @@ use Rattle.grade.specs.declared.PieceAnswer.{PieceAnswer}
 use Rattle.grade.specs.Grade.{Point, ticks}
 use Rattle.grade.specs.Exact.{compiled, exactPiece}
 use Rattle.grade.specs.Holds.{InBox, SaysLevel}
-use Rattle.grade.specs.Said.{found}
+use Rattle.grade.specs.Said.{Said, found, refusing, answered}
 use Rattle.grade.specs.Refusals.{refused, _orElse_, above}
 use Rattle.grade.specs.Fits.{DefFits, Within3}
 use Rattle.grade.proofs.Entries.{both, ticks-within}
@@ -21,18 +22,23 @@ use Rattle.grade.proofs.PieceLaws.{exact-piece-says}
 use Rattle.grade.proofs.RefusalLaws.{none-first, none-last, kept, neither}
 use Rattle.gyroid.specs.declared.Description.{Description}
 use Rattle.gyroid.specs.declared.Residual.{Residual}
-use Rattle.gyroid.specs.Refusals.{refusal, endsWithin}
+use Rattle.gyroid.specs.declared.State.{State}
+use Rattle.gyroid.specs.Refusals.{refusal, endsWithin, allFinite}
+use Rattle.gyroid.specs.Fits.{Accepted}
 use Rattle.gyroid.specs.Leaf.{leaf}
-use Rattle.gyroid.specs.Residual.{residual, boxState}
-use Rattle.gyroid.specs.Admitted.{tickBox, Holds, Settles}
+use Rattle.gyroid.specs.Residual.{residual, affineResidual, boxState, stateNumber}
+use Rattle.gyroid.specs.Admitted.{OfTicks, Holds, Settles}
 use Rattle.gyroid.proofs.AcceptedLaws.{accepted}
 use Rattle.gyroid.proofs.LeafLaws.{leaf-grade, turns-small}
+use Rattle.gyroid.proofs.InfiniteLaws.{residual-none, affine-residual-none, box-state-unsettled}
+use Rattle.gyroid.proofs.AlikeLaws.{residual-same, state-same}
 use Rattle.gyroid.proofs.EnclosureLaws.{residual-holds, state-settles}
 use Rattle.calls.specs.declared.StateAnswer.{StateAnswer}
-use Rattle.calls.specs.Refusals.{farthest, allOrdered, allNear, boxRefusal}
+use Rattle.calls.specs.Refusals.{farthest, allOrdered, hasInfinite, allNear, boxRefusal, finiteBoxRefusal}
 use Rattle.calls.specs.Fast.{pointAt}
 use Rattle.calls.specs.Fits.{FastFits, Near}
-use Rattle.calls.specs.Calls.{enclosureSaid, levelPieceSaid, residualAnswer, residualValues, pieceAnswer, pieceValues, pointBox, levelPieceRefusal, PieceSays, EnclosureHolds, StateSettles}
+use Rattle.calls.specs.Calls.{enclosureSaid, levelPieceSaid, residualAnswer, residualValues, pieceAnswer, pieceValues, pointBox}
+use Rattle.calls.specs.Calls.{levelPieceRefusal, PieceSays, byRows, residualCall, EnclosureHolds, affineResidualCall, boxStateCall, StateSettles}
 
 -- ---- what `level_piece` has tested
 pub record PieceAccepted (d : Description) (lo hi : List ℤ) : Type 0 where
@@ -64,15 +70,55 @@ pub residual-said : (r : Residual) → enclosureSaid (residualAnswer r) ≡ foun
 residual-said (Residual.Enclosure lo hi) = refl
 residual-said Residual.None = refl
 
-pub enclosure-holds : (d : Description) (w : List Interval) → refusal d ≡ 0 → EnclosureHolds d w (residualAnswer (residual (leaf d) w))
-enclosure-holds d w e = go (residual (leaf d) w) (λ lo hi l h q. subst⁻¹ (λ (x : List Interval). Holds d lo hi (residual (leaf d) x)) q (residual-holds d (record { none = e }) lo hi l h))
+-- the rows of the three calls, by the number that the code tests: at an infinite end the layer's answer is none, and unsettled
+abbrev numbered : {A : Type 0} → Description → List Interval → List A → Said A
+numbered d w v = answered (refusal d orElse finiteBoxRefusal w) v
+
+rows : {A : Type 0} (d : Description) (w : List Interval) (v : List A) {z : List A} → (T (not (allFinite w)) → v ≡ z) → numbered d w v ≡ byRows d w z v
+unfolding finiteBoxRefusal hasInfinite
+rows {A} d w v {z} at-infinite = go (eqb n 0) refl (allOrdered w) (allFinite w) (allNear w) at-infinite
   where
-    go : (r : Residual) → ((lo hi : List ℤ) → T (ticks lo) → T (ticks hi) → w ≡ tickBox lo hi → Holds d lo hi r) → EnclosureHolds d w (residualAnswer r)
+    n : ℕ
+    n = refusal d
+
+    far : Bool → Bool → Bool → ℕ
+    far o f a = refused (not o) 9 orElse refused (f && not a) 10
+
+    go : (b : Bool) → eqb n 0 ≡ b → (o f a : Bool) → (T (not f) → v ≡ z)
+        → cond (eqb (cond b (far o f a) n) 0) (found v) (refusing (cond b (far o f a) n))
+        ≡ cond (not b) (refusing n) (cond (not o) (refusing 9) (cond (not f) (found z) (cond (not a) (refusing 10) (found v))))
+    go false e o f a h = rw e refl
+    go true e false f a h = refl
+    go true e true false a h = ap (λ (x : List A). found x) (h tt)
+    go true e true true false h = refl
+    go true e true true true h = refl
+
+module _ (d : Description) (w : List Interval) where
+  pub residual-rows : numbered d w (residualValues (residual (leaf d) w)) ≡ residualCall d w
+  unfolding residualCall
+  residual-rows = rows d w (residualValues (residual (leaf d) w)) (λ t. ap residualValues (residual-none (leaf d) w t))
+
+  pub affine-rows : numbered d w (residualValues (affineResidual (leaf d) w)) ≡ affineResidualCall d w
+  unfolding affineResidualCall
+  affine-rows = rows d w (residualValues (affineResidual (leaf d) w)) (λ t. ap residualValues (affine-residual-none (leaf d) w t))
+
+  pub state-rows : numbered d w (stateNumber (boxState (leaf d) w) ∷ []) ≡ boxStateCall d w
+  unfolding boxStateCall
+  state-rows = rows d w (stateNumber (boxState (leaf d) w) ∷ []) (λ t. ap (λ (s : State). stateNumber s ∷ []) (box-state-unsettled (leaf d) w t))
+
+pub enclosure-holds : (d : Description) (w : List Interval) → refusal d ≡ 0 → EnclosureHolds d w (residualAnswer (residual (leaf d) w))
+enclosure-holds d w e =
+    let a : Accepted d = record { none = e } in
+    go (residual (leaf d) w) (λ lo hi l h q. subst⁻¹ (Holds d lo hi) (residual-same d a lo hi l h w q) (residual-holds d a lo hi l h))
+  where
+    go : (r : Residual) → ((lo hi : List ℤ) → T (ticks lo) → T (ticks hi) → OfTicks lo hi w → Holds d lo hi r) → EnclosureHolds d w (residualAnswer r)
     go (Residual.Enclosure lo hi) f = f
     go Residual.None f = tt
 
 pub state-settled : (d : Description) (w : List Interval) → refusal d ≡ 0 → StateSettles d w (StateAnswer.Found (boxState (leaf d) w))
-state-settled d w e = λ lo hi l h q. subst⁻¹ (λ (x : List Interval). Settles d lo hi (boxState (leaf d) x)) q (state-settles d (record { none = e }) lo hi l h)
+state-settled d w e =
+    let a : Accepted d = record { none = e } in
+    λ lo hi l h q. subst⁻¹ (Settles d lo hi) (state-same d a lo hi l h w q) (state-settles d a lo hi l h)
 
 -- ---- what `fast_distance` has tested
 pub fast-fits : (d : Description) → refusal d ≡ 0 → FastFits (leaf d)

@@ -1,6 +1,5 @@
 -- The public calls: document 01's number and values for each case of an answer, and what each call says of any input.
 -- Definitions only; assumes nothing.
-use mathlib.Core.Path.{_≡_}
 use mathlib.Core.Bool.{Bool, true, false, cond, not, _&&_}
 use mathlib.Core.List.{List, [], _∷_}
 use Prim.Native.Nat.{ℕ}
@@ -26,11 +25,12 @@ use Rattle.gyroid.specs.declared.Description.{Description}
 use Rattle.gyroid.specs.declared.Jet.{Jet}
 use Rattle.gyroid.specs.declared.Residual.{Residual}
 use Rattle.gyroid.specs.declared.Residual.the-variants.{Enclosure, None}
+use Rattle.gyroid.specs.declared.State.the-variants.{Unsettled}
 use Rattle.gyroid.specs.Refusals.{refusal}
 use Rattle.gyroid.specs.Leaf.{leaf}
 use Rattle.gyroid.specs.Jet.{noJet, jet, affineJet}
 use Rattle.gyroid.specs.Residual.{residual, affineResidual, boxState, stateNumber}
-use Rattle.gyroid.specs.Admitted.{tickBox, Holds, Settles}
+use Rattle.gyroid.specs.Admitted.{OfTicks, Holds, Settles}
 use Rattle.calls.specs.declared.Derivatives.{Derivatives}
 use Rattle.calls.specs.declared.EnclosureAnswer.{EnclosureAnswer}
 use Rattle.calls.specs.declared.StateAnswer.{StateAnswer}
@@ -38,7 +38,7 @@ use Rattle.calls.specs.declared.LevelPieceAnswer.{LevelPieceAnswer}
 use Rattle.calls.specs.declared.TruthAnswer.{TruthAnswer}
 use Rattle.calls.specs.declared.PlanesAnswer.{PlanesAnswer}
 use Rattle.calls.specs.declared.DoubleAnswer.{DoubleAnswer}
-use Rattle.calls.specs.Refusals.{boxRefusal, finiteBoxRefusal, triangleRefusal}
+use Rattle.calls.specs.Refusals.{allOrdered, hasInfinite, allNear, boxRefusal, triangleRefusal}
 use Rattle.calls.specs.Facet.{curvature, facetResidual}
 use Rattle.calls.specs.Derivatives.{noDerivatives, derivatives}
 use Rattle.calls.specs.Fast.{pointAt, fastDistance}
@@ -160,26 +160,34 @@ derivativesCall d w piece =
     let n = refusal d orElse boxRefusal w in
     cond (eqb n 0) (derivatives (leaf d) w piece) (noDerivatives n)
 
--- an infinite end passes the refusals here, and the expansion is none there
-unfoldable pub residualCall : Description → List Interval → Said Float
-residualCall d w = answered (refusal d orElse finiteBoxRefusal w) (residualValues (residual (leaf d) w))
+-- "`residual`, `affine_residual` and `box_state` meet an infinite end after 9 and before 10: none, none, unsettled."
+abbrev pub byRows : {A : Type 0} → Description → List Interval → List A → List A → Said A
+byRows d w atInfinite values =
+    cond (not (eqb (refusal d) 0)) (refusing (refusal d))
+    (cond (not (allOrdered w)) (refusing 9)
+    (cond (hasInfinite w) (found atInfinite)
+    (cond (not (allNear w)) (refusing 10)
+    (found values))))
 
--- over a box of whole ticks an enclosure that is found holds every admitted residual
+unfoldable pub residualCall : Description → List Interval → Said Float
+residualCall d w = byRows d w [] (residualValues (residual (leaf d) w))
+
+-- over a box with the ends of whole ticks an enclosure that is found holds every admitted residual
 abbrev pub EnclosureHolds : Description → List Interval → EnclosureAnswer → Type 0
 EnclosureHolds d w (EnclosureAnswer.Refused n) = Unit {0}
-EnclosureHolds d w (EnclosureAnswer.Found l h) = (lo hi : List ℤ) → T (ticks lo) → T (ticks hi) → w ≡ tickBox lo hi → Holds d lo hi (Enclosure l h)
+EnclosureHolds d w (EnclosureAnswer.Found l h) = (lo hi : List ℤ) → T (ticks lo) → T (ticks hi) → OfTicks lo hi w → Holds d lo hi (Enclosure l h)
 EnclosureHolds d w EnclosureAnswer.None = Unit {0}
 
 unfoldable pub affineResidualCall : Description → List Interval → Said Float
-affineResidualCall d w = answered (refusal d orElse finiteBoxRefusal w) (residualValues (affineResidual (leaf d) w))
+affineResidualCall d w = byRows d w [] (residualValues (affineResidual (leaf d) w))
 
 unfoldable pub boxStateCall : Description → List Interval → Said ℕ
-boxStateCall d w = answered (refusal d orElse finiteBoxRefusal w) (stateNumber (boxState (leaf d) w) ∷ [])
+boxStateCall d w = byRows d w (stateNumber Unsettled ∷ []) (stateNumber (boxState (leaf d) w) ∷ [])
 
 -- and a state says the sign of all of them
 abbrev pub StateSettles : Description → List Interval → StateAnswer → Type 0
 StateSettles d w (StateAnswer.Refused n) = Unit {0}
-StateSettles d w (StateAnswer.Found s) = (lo hi : List ℤ) → T (ticks lo) → T (ticks hi) → w ≡ tickBox lo hi → Settles d lo hi s
+StateSettles d w (StateAnswer.Found s) = (lo hi : List ℤ) → T (ticks lo) → T (ticks hi) → OfTicks lo hi w → Settles d lo hi s
 
 unfoldable pub facetResidualCall : Description → List (List Interval) → Said Float
 facetResidualCall d c = answered (refusal d orElse triangleRefusal c) (residualValues (facetResidual (leaf d) c))

@@ -4,15 +4,12 @@ use mathlib.Core.Bool.{Bool, not, _&&_}
 use mathlib.Core.List.{List, []}
 use Prim.Native.Nat.{ℕ}
 use lib.ListN.{getD}
-use lib.Ieee.{Float, le}
+use lib.Ieee.{Float}
 use Rattle.interval.specs.declared.Interval.{Interval}
 use Rattle.interval.specs.Step.{b64}
+use Rattle.interval.specs.Interval.{ordered}
 use Rattle.grade.specs.Refusals.{refused, _orElse_}
 use Rattle.gyroid.specs.Refusals.{endsWithin, every, allFinite}
-
--- what is not ordered: "9: NaN or low above high". `le-is` of the interval layer: low ≤ high fails there and nowhere else
-abbrev pub ordered : Interval → Bool
-ordered b = le (b .lo) (b .hi)
 
 -- 2^40
 abbrev pub farthest : Float
@@ -22,6 +19,7 @@ farthest = b64 0x4270_0000_0000_0000
 abbrev pub corner : List (List Interval) → ℕ → List Interval
 corner c i = getD c i []
 
+-- what is not ordered: "9: NaN or low above high"
 unfoldable pub allOrdered : List Interval → Bool
 allOrdered w = every ordered w
 
@@ -32,7 +30,11 @@ allNear w = every (endsWithin farthest) w
 unfoldable pub boxRefusal : List Interval → ℕ
 boxRefusal w = refused (not (allOrdered w)) 9 orElse refused (not (allNear w)) 10
 
--- "`residual`, `affine_residual` and `box_state` meet an infinite end after 9 and before 10: none, none, unsettled."
+-- an end beyond the greatest double: an infinity, for 9 comes before it and refuses a NaN
+unfoldable pub hasInfinite : List Interval → Bool
+hasInfinite w = not (allFinite w)
+
+-- the number alone of a call that meets an infinite end between 9 and 10 (`byRows` of specs/Calls has the rows)
 unfoldable pub finiteBoxRefusal : List Interval → ℕ
 finiteBoxRefusal w = refused (not (allOrdered w)) 9 orElse refused (allFinite w && not (allNear w)) 10
 

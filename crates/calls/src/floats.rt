@@ -1,7 +1,8 @@
 // Refusals of doubles: 9 over the whole input, then 10; three calls meet an infinite end between them.
 ghost use mathlib.Core.Path.{_≡_};
+ghost use Rattle.interval.specs.Interval.{ordered};
 ghost use Rattle.gyroid.specs.Refusals.{endsWithin};
-ghost use Rattle.calls.specs.Refusals.{ordered, farthest, allOrdered, allNear, boxRefusal, finiteBoxRefusal, triangleRefusal};
+ghost use Rattle.calls.specs.Refusals.{farthest, allOrdered, allNear, boxRefusal, finiteBoxRefusal, triangleRefusal};
 ghost use Rattle.calls.specs.Calls.{pointBox};
 use grade::refusals::or_else;
 use grade::refusals::refused;

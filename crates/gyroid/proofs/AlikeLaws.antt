@@ -14,10 +14,10 @@ use Rattle.exact.specs.Within.{Within}
 use Rattle.exact.proofs.Fraction.{≈F-sym, ≈F-trans}
 use Rattle.interval.specs.declared.Interval.{Interval}
 use Rattle.interval.specs.Interval.{point, greatest, product, mid}
-use Rattle.interval.specs.Encloses.{value}
+use Rattle.interval.specs.Encloses.{value, Small}
 use Rattle.interval.specs.Nearest.{nearest}
 use Rattle.interval.proofs.Small.{small-finite}
-use Rattle.interval.proofs.Exact.{binary, mid-exact}
+use Rattle.interval.proofs.Exact.{binary, exact-small, mid-exact}
 use Rattle.interval.proofs.Alike.{Alike, le-alike, alike-le, Same, same-alike, SameEnds, same-ends, sub-same, mul-same}
 use Rattle.grade.specs.declared.LevelKind.{LevelKind}
 use Rattle.grade.specs.declared.Piece.{Piece}
@@ -52,6 +52,16 @@ at-nearest {z} h = record { finite = tick-exact h .0; value = ≈F-trans (tick-e
 one-tick : {x y : Float} {z : ℤ} → AtTick x z → AtTick y z → Same x y
 one-tick a b = record { left = a .finite; right = b .finite; value = ≈F-trans (a .value) (≈F-sym (b .value)) }
 
+pub tick-small : {x : Float} {z : ℤ} → Within 1048576 z → AtTick x z → Small 10 x
+tick-small {x} {z} h a = exact-small 10 10 z x (a .finite) (≈F-trans (a .value) (≈F-sym (over-binary z))) (h .abs)
+
+-- the box of ticks is one of those
+pub of-ticks : (lo hi : List ℤ) → Within3 1048576 lo → Within3 1048576 hi → OfTicks lo hi (tickBox lo hi)
+of-ticks lo hi low-in high-in = record {
+  lows = three (λ i. AtTick (boxAt (tickBox lo hi) i .lo) (at lo i)) (at-nearest (low-in .x)) (at-nearest (low-in .y)) (at-nearest (low-in .z));
+  highs = three (λ i. AtTick (boxAt (tickBox lo hi) i .hi) (at hi i)) (at-nearest (high-in .x)) (at-nearest (high-in .y)) (at-nearest (high-in .z));
+}
+
 -- the middle of two ticks is exact
 mid-tick : (X : Interval) {m n : ℤ} → Within 1048576 m → Within 1048576 n → AtTick (X .lo) m → AtTick (X .hi) n
     → T (finite (mid X)) × (value (mid X) ≈F binary (m +ℤ n) 11)
@@ -69,19 +79,16 @@ module _
   abbrev v : List Interval
   v = tickBox lo hi
 
-  of-ticks : OfTicks lo hi v
-  of-ticks = record {
-    lows = three (λ i. AtTick (boxAt v i .lo) (at lo i)) (at-nearest (low-in .x)) (at-nearest (low-in .y)) (at-nearest (low-in .z));
-    highs = three (λ i. AtTick (boxAt v i .hi) (at hi i)) (at-nearest (high-in .x)) (at-nearest (high-in .y)) (at-nearest (high-in .z));
-  }
+  o : OfTicks lo hi v
+  o = of-ticks lo hi low-in high-in
 
   box-same : SameBox w v
-  box-same i b = record { lo = one-tick (h .lows i b) (of-ticks .lows i b); hi = one-tick (h .highs i b) (of-ticks .highs i b) }
+  box-same i b = record { lo = one-tick (h .lows i b) (o .lows i b); hi = one-tick (h .highs i b) (o .highs i b) }
 
   mid-same : (i : ℕ) → i < 3 → Same (mid (boxAt w i)) (mid (boxAt v i))
   mid-same i b =
       let (f, e) = mid-tick (boxAt w i) (within-at low-in i b) (within-at high-in i b) (h .lows i b) (h .highs i b) in
-      let (g, k) = mid-tick (boxAt v i) (within-at low-in i b) (within-at high-in i b) (of-ticks .lows i b) (of-ticks .highs i b) in
+      let (g, k) = mid-tick (boxAt v i) (within-at low-in i b) (within-at high-in i b) (o .lows i b) (o .highs i b) in
       record { left = f; right = g; value = ≈F-trans e (≈F-sym k) }
 
   point-same : {x y : Float} → Same x y → SameEnds (point x) (point y)

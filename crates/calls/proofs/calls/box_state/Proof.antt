@@ -10,8 +10,8 @@ use Rattle.gyroid.specs.Residual.{stateNumber}
 use Rattle.gyroid.specs.Residual.{boxState}
 use Rattle.gyroid.proofs.LeafLaws.{number-is, leaf-is}
 use Rattle.calls.specs.declared.StateAnswer.{StateAnswer}
-use Rattle.calls.specs.Calls.{boxStateCall, StateSettles}
-use Rattle.calls.proofs.CallLaws.{state-settled}
+use Rattle.calls.specs.Calls.{StateSettles}
+use Rattle.calls.proofs.CallLaws.{state-rows, state-settled}
 use Rattle.calls.proofs.calls.box_state.Statement.{statement}
 use Rattle.calls.proofs.calls.box_state.Tie as tie
 
@@ -19,19 +19,17 @@ certified-requires : tie.Need-certified-requires
 certified-requires c κs = search needs
 
 returns : tie.Need-returns
-unfolding boxStateCall
 returns c =
     let c3 = c .before .before .before in
     let c4 = c3 .before in
     let d = c4 .args .description in
     let n = c .before .or-else .ensures ∙ ap₂ _orElse_ (number-is d (c3 .certified .ensures)) (c .before .before .finite-box-refusal .ensures) in
-    (refused-is (λ k. refusing k) _ n (c .if1 .taken), tt)
+    (refused-is (λ k. refusing k) _ n (c .if1 .taken) ∙ state-rows d (c4 .args .world), tt)
 
 box-state-requires : tie.Need-box-state-requires
 box-state-requires c κs = search needs
 
 returns-2 : tie.Need-returns-2
-unfolding boxStateCall
 returns-2 c =
     let c3 = c .before .before .before in
     let c4 = c3 .before in
@@ -42,7 +40,10 @@ returns-2 c =
     let (z, _) = neither _ _ (sym n ∙ c .before .before .if1 .left) in
     let l = leaf-is d (c5 .certified .ensures) z in
     let e = c .box-state .ensures ∙ ap (λ g. boxState g (c6 .args .world)) l in
-    (answer-is _ n (c .before .before .if1 .left) (ap (λ s. found (stateNumber s ∷ [])) e), subst⁻¹ (λ (s : State). StateSettles d (c6 .args .world) (StateAnswer.Found s)) e (state-settled d (c6 .args .world) z))
+    let w = c6 .args .world in (
+      answer-is _ n (c .before .before .if1 .left) (ap (λ s. found (stateNumber s ∷ [])) e) ∙ state-rows d w,
+      subst⁻¹ (λ (s : State). StateSettles d w (StateAnswer.Found s)) e (state-settled d w z),
+    )
 
 pub box-state-spec : {M : Type 1} → statement M
 box-state-spec =

@@ -7,8 +7,8 @@ use Rattle.grade.specs.Said.{refusing}
 use Rattle.gyroid.specs.Leaf.{leaf}
 use Rattle.gyroid.specs.Residual.{residual}
 use Rattle.gyroid.proofs.LeafLaws.{number-is, leaf-is}
-use Rattle.calls.specs.Calls.{enclosureSaid, residualAnswer, residualCall, EnclosureHolds}
-use Rattle.calls.proofs.CallLaws.{residual-said, enclosure-holds}
+use Rattle.calls.specs.Calls.{enclosureSaid, residualAnswer, EnclosureHolds}
+use Rattle.calls.proofs.CallLaws.{residual-said, residual-rows, enclosure-holds}
 use Rattle.calls.proofs.calls.residual.Statement.{statement}
 use Rattle.calls.proofs.calls.residual.Tie as tie
 
@@ -16,19 +16,17 @@ certified-requires : tie.Need-certified-requires
 certified-requires c κs = search needs
 
 returns : tie.Need-returns
-unfolding residualCall
 returns c =
     let c3 = c .before .before .before in
     let c4 = c3 .before in
     let d = c4 .args .description in
     let n = c .before .or-else .ensures ∙ ap₂ _orElse_ (number-is d (c3 .certified .ensures)) (c .before .before .finite-box-refusal .ensures) in
-    (refused-is (λ k. refusing k) _ n (c .if1 .taken), tt)
+    (refused-is (λ k. refusing k) _ n (c .if1 .taken) ∙ residual-rows d (c4 .args .world), tt)
 
 residual-requires : tie.Need-residual-requires
 residual-requires c κs = search needs
 
 returns-2 : tie.Need-returns-2
-unfolding residualCall
 returns-2 c =
     let c3 = c .before .before .before in
     let c4 = c3 .before in
@@ -40,7 +38,10 @@ returns-2 c =
     let (z, _) = neither _ _ (sym n ∙ c3 .if1 .left) in
     let l = leaf-is d (c6 .certified .ensures) z in
     let e = c .residual-answer .ensures ∙ ap residualAnswer (c .before .residual .ensures ∙ ap (λ g. residual g (c7 .args .world)) l) in
-    (answer-is _ n (c3 .if1 .left) (ap enclosureSaid e ∙ residual-said (residual (leaf d) (c7 .args .world))), subst⁻¹ (EnclosureHolds d (c7 .args .world)) e (enclosure-holds d (c7 .args .world) z))
+    let w = c7 .args .world in (
+      answer-is _ n (c3 .if1 .left) (ap enclosureSaid e ∙ residual-said (residual (leaf d) w)) ∙ residual-rows d w,
+      subst⁻¹ (EnclosureHolds d w) e (enclosure-holds d w z),
+    )
 
 pub residual-spec : {M : Type 1} → statement M
 residual-spec =
