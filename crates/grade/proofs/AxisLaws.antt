@@ -22,7 +22,7 @@ use Rattle.grade.specs.Grade.{at, eqZ, minus, dot}
 use Rattle.grade.specs.Exact.{linearOf, numbers, constantDef, compiled}
 use Rattle.grade.specs.Certified.{only, axisOf, axis, isOne, axisBy, defAxis, planesOn, planes, size, distance}
 use Rattle.grade.specs.Fits.{Within3}
-use Rattle.grade.specs.Holds.{positions}
+use Rattle.grade.specs.Extended.{positions}
 use Rattle.grade.proofs.Axes.{three}
 use Rattle.grade.proofs.Entries.{both}
 use Rattle.grade.proofs.Accepted.{by-kind}

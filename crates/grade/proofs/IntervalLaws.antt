@@ -31,7 +31,8 @@ use Rattle.grade.specs.Exact.{linearOf, numbers, constantDef, compiled}
 use Rattle.grade.specs.Refusals.{coincident}
 use Rattle.grade.specs.Fits.{Within3, InLimits}
 use Rattle.grade.specs.Intervals.{unit, units, linearIntervals, gradeIntervals, boxAt, alongAxis, parameterOf, parameter, levelOf, interval, affine, pieceOf, piece}
-use Rattle.grade.specs.Holds.{Says, SaysLevel, affineLevel, inUnits}
+use Rattle.grade.specs.Holds.{SaysLevel}
+use Rattle.grade.specs.Extended.{Says, affineLevel, inUnits}
 use Rattle.grade.proofs.Axes.{three}
 use Rattle.grade.proofs.Entries.{both, Sizes, sizes}
 use Rattle.grade.proofs.Sizes.{minus-within, dot-within}

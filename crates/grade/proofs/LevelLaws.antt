@@ -18,7 +18,7 @@ use Rattle.exact.proofs.FractionSize.{held-low, held-high, held-between}
 use Rattle.grade.specs.declared.Grade.{Grade}
 use Rattle.grade.specs.Grade.{eqZ, isLinear, lengthSq, Point, t, rampLevel, level}
 use Rattle.grade.specs.Exact.{held, linearOf, numbers, levelOver}
-use Rattle.grade.specs.Holds.{affineLevel}
+use Rattle.grade.specs.Extended.{affineLevel}
 use Rattle.grade.proofs.Entries.{both}
 use Rattle.exact.proofs.Size.{size-above}
 

@@ -16,7 +16,8 @@ use Rattle.grade.specs.declared.PieceAnswer.the-variants.{Found, None}
 use Rattle.grade.specs.Grade.{isLinear, lengthSq, Point, t, rampLevel, level}
 use Rattle.grade.specs.Exact.{linearOf, numbers, constantDef, compiled, leastAlong, greatestAlong, chosen, linearPiece, exactPiece}
 use Rattle.grade.specs.Refusals.{coincident}
-use Rattle.grade.specs.Holds.{InBox, Says, SaysLevel, affineLevel}
+use Rattle.grade.specs.Holds.{InBox, SaysLevel}
+use Rattle.grade.specs.Extended.{Says, affineLevel}
 use Rattle.grade.proofs.Entries.{both}
 use Rattle.grade.proofs.Accepted.{linear-apart, by-kind}
 use Rattle.grade.proofs.LevelLaws.{ramp-cong, ramp-zero, ramp-one, level-linear, level-flat, affine-linear, affine-flat, length-pos, over-length}

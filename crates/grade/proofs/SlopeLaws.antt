@@ -22,7 +22,7 @@ use Rattle.grade.specs.Exact.{linearOf, numbers, constantDef, compiled}
 use Rattle.grade.specs.Refusals.{coincident}
 use Rattle.grade.specs.Fits.{InLimits}
 use Rattle.grade.specs.Intervals.{slopes, slopeAlong, linearIntervals, gradeIntervals, boxAt, zeros, gradient, pieceGradient}
-use Rattle.grade.specs.Holds.{affineLevel, slope, pieceSlope}
+use Rattle.grade.specs.Extended.{affineLevel, slope, pieceSlope}
 use Rattle.grade.proofs.Axes.{three}
 use Rattle.grade.proofs.Entries.{sizes}
 use Rattle.grade.proofs.Sizes.{minus-within}

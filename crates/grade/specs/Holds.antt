@@ -1,22 +1,17 @@
 -- What the answers say of every rational point of a box: the statements that proofs/ proves. Definitions only; assumes nothing.
 use mathlib.Core.Path.{_≡_}
-use mathlib.Core.Bool.{cond}
 use mathlib.Core.Logic.{_⊎_}
 use mathlib.Core.List.{List}
 use Prim.Native.Nat.{ℕ, _<_}
-use lib.IntN.{ℤ, natAbs, _-ℤ_, _*ℤ_}
+use lib.IntN.{ℤ, natAbs}
 use lib.Signed.{_≤ℤ_}
-use Rattle.exact.specs.Fraction.{Fraction, whole, zeroF, oneF, _/F_, _≤F_, _≈F_}
+use Rattle.exact.specs.Fraction.{Fraction, whole, _/F_, _≤F_, _≈F_}
 use Rattle.grade.specs.declared.Grade.{Grade}
 use Rattle.grade.specs.declared.Bounds.{Bounds}
-use Rattle.grade.specs.declared.Piece.{Piece}
 use Rattle.grade.specs.declared.Piece.the-variants.{Start, Ramp, End}
 use Rattle.grade.specs.declared.PieceAnswer.{PieceAnswer}
 use Rattle.grade.specs.declared.PieceAnswer.the-variants.{Found, None}
-use Rattle.grade.specs.declared.Axis.{Axis}
-use Rattle.grade.specs.declared.Axis.the-variants.{One}
-use Rattle.grade.specs.declared.Planes.{Planes}
-use Rattle.grade.specs.Grade.{at, Point, isLinear, direction, lengthSq, t, rampLevel, level}
+use Rattle.grade.specs.Grade.{at, Point, t, rampLevel, level}
 
 -- ---- a rational point of a box of whole ticks, its faces included
 pub record InBox (lo hi : List ℤ) (p : Point) : Type 0 where
@@ -40,37 +35,9 @@ pub record RangeHolds (g : Grade) (lo hi : List ℤ) (b : Bounds) : Type 0 where
   pub low-taken : Taken g lo hi (fraction b (b .low))
   pub high-taken : Taken g lo hi (fraction b (b .high))
 
--- ---- what a piece says of t, and so of the level
-abbrev pub Says : PieceAnswer → Fraction → Type 0
-Says (Found Start) t = t ≤F zeroF
-Says (Found Ramp) t = (zeroF ≤F t) × (t ≤F oneF)
-Says (Found End) t = oneF ≤F t
-Says None t = Unit {0}
-
+-- ---- what a piece says of the level
 abbrev pub SaysLevel : Grade → Point → PieceAnswer → Type 0
 SaysLevel g p (Found Start) = level g p ≈F whole (g .start)
 SaysLevel g p (Found Ramp) = level g p ≈F rampLevel g (t g p)
 SaysLevel g p (Found End) = level g p ≈F whole (g .end)
 SaysLevel g p None = Unit {0}
-
--- ---- the positions of `from` and `to` on an axis
-abbrev pub positions : Axis → Grade → Planes
-positions (One i) g = Planes.Found i (at (g .from) i) (at (g .to) i)
-positions Axis.None g = Planes.None
-
--- ---- the affine extension of the level, and its slope along an axis in level counts per tick
-unfoldable pub affineLevel : Grade → Point → Fraction
-affineLevel g p = cond (isLinear g) (rampLevel g (t g p)) (whole (g .start))
-
-unfoldable pub slope : Grade → ℕ → Fraction
-slope g i = cond (isLinear g) (whole (at (direction g) i *ℤ (g .end -ℤ g .start)) /F natAbs (lengthSq g)) zeroF
-
--- the level's slope on a piece
-abbrev pub pieceSlope : Grade → Piece → ℕ → Fraction
-pieceSlope g Start i = zeroF
-pieceSlope g Ramp i = slope g i
-pieceSlope g End i = zeroF
-
--- "A tick is 1/1024 mm; a level count is 1/1024.": ticks in millimetres, and level counts as levels
-abbrev pub inUnits : Fraction → Fraction
-inUnits q = q /F 1024

@@ -10,5 +10,6 @@ pub mod Holds
 pub mod Said
 pub mod Calls
 pub mod Marked
--- what the layer's functions ask of their arguments
+-- what the layer's functions ask of their arguments, and what only proofs speak of
 pub mod Fits
+pub mod Extended

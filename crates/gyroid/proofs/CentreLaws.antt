@@ -23,7 +23,8 @@ use Rattle.interval.proofs.Membership.{In, high, between, equal-in, point-enclo
 use Rattle.interval.proofs.Encloses.{sub-encloses}
 use Rattle.grade.specs.Grade.{at, Point}
 use Rattle.grade.specs.Fits.{Within3}
-use Rattle.grade.specs.Holds.{InBox, inUnits}
+use Rattle.grade.specs.Holds.{InBox}
+use Rattle.grade.specs.Extended.{inUnits}
 use Rattle.grade.proofs.AxisLaws.{within-at}
 use Rattle.gyroid.specs.Residual.{radius}
 use Rattle.gyroid.specs.Admitted.{centreAt, halfWidth, ends}

@@ -25,7 +25,7 @@ use Rattle.gyroid.specs.declared.State.{State}
 use Rattle.gyroid.specs.Fits.{Accepted}
 use Rattle.gyroid.specs.Leaf.{leaf}
 use Rattle.gyroid.specs.Residual.{boxState}
-use Rattle.gyroid.specs.Admitted.{halfWidth, tickBox, bracket, Chosen, wave, Settles, Some}
+use Rattle.gyroid.specs.Admitted.{halfWidth, tickBox, bracket, Chosen, wave, admitted, Settles}
 use Rattle.gyroid.proofs.CentreLaws.{doubled}
 use Rattle.gyroid.proofs.ExpansionLaws.{bracket-scaled}
 use Rattle.gyroid.proofs.EnclosureLaws.{state-settles}
@@ -78,6 +78,13 @@ corner-inside lo hi t =
     }
 
 -- ---- so a settled box has an admitted residual, of the sign that its state says
+-- some admitted residual of the box has the property P
+pub record Some (d : Description) (lo hi : List ℤ) (P : Fraction → Type 0) : Type 0 where
+  pub p : Point
+  pub inside : InBox lo hi p
+  pub chosen : Chosen d lo hi
+  pub says : P (admitted d lo hi chosen p)
+
 module _ (d : Description) (none : Accepted d) (lo hi : List ℤ) (low-ticks : T (ticks lo)) (high-ticks : T (ticks hi)) (order : T (not (above lo hi))) where
   abbrev corner : Point
   corner i = whole (at lo i)

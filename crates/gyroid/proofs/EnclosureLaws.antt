@@ -16,7 +16,8 @@ use Rattle.interval.proofs.Membership.{In, wider, above-zero, below-zero}
 use Rattle.grade.specs.Grade.{Point, ticks, level}
 use Rattle.grade.specs.Intervals.{boxAt}
 use Rattle.grade.specs.Fits.{Within3}
-use Rattle.grade.specs.Holds.{InBox, inUnits}
+use Rattle.grade.specs.Holds.{InBox}
+use Rattle.grade.specs.Extended.{inUnits}
 use Rattle.grade.proofs.Entries.{ticks-within}
 use Rattle.grade.proofs.Axes.{three}
 use Rattle.gyroid.specs.declared.Description.{Description}

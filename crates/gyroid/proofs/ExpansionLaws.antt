@@ -19,7 +19,8 @@ use Rattle.interval.proofs.Encloses.{add-encloses, mul-encloses, square-enclose
 use Rattle.grade.specs.Grade.{Point}
 use Rattle.grade.specs.Intervals.{boxAt}
 use Rattle.grade.specs.Fits.{Within3}
-use Rattle.grade.specs.Holds.{InBox, inUnits}
+use Rattle.grade.specs.Holds.{InBox}
+use Rattle.grade.specs.Extended.{inUnits}
 use Rattle.grade.proofs.Axes.{three}
 use Rattle.gyroid.specs.declared.Description.{Description}
 use Rattle.gyroid.specs.declared.Gyroid.{Gyroid}

@@ -17,7 +17,7 @@ use Rattle.interval.proofs.Membership.{In, equal-in, wider}
 use Rattle.interval.proofs.Encloses.{add-encloses, sub-encloses, mul-encloses, square-encloses, fraction-encloses}
 use Rattle.grade.specs.Intervals.{boxAt}
 use Rattle.grade.specs.Fits.{Within3}
-use Rattle.grade.specs.Holds.{inUnits}
+use Rattle.grade.specs.Extended.{inUnits}
 use Rattle.grade.proofs.Axes.{three}
 use Rattle.gyroid.specs.declared.Description.{Description}
 use Rattle.gyroid.specs.declared.Turn.{Turn}

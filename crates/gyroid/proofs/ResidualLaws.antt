@@ -20,7 +20,8 @@ use Rattle.grade.specs.declared.PieceAnswer.{PieceAnswer}
 use Rattle.grade.specs.Grade.{Point, level}
 use Rattle.grade.specs.Exact.{compiled}
 use Rattle.grade.specs.Intervals.{unit, gradeIntervals, boxAt, zero, zeros, interval, affine, pieceGradient, piece}
-use Rattle.grade.specs.Holds.{SaysLevel, affineLevel, slope, pieceSlope, inUnits}
+use Rattle.grade.specs.Holds.{SaysLevel}
+use Rattle.grade.specs.Extended.{affineLevel, slope, pieceSlope, inUnits}
 use Rattle.grade.proofs.PieceLaws.{ramp-affine}
 use Rattle.grade.proofs.IntervalLaws.{intervals-kind, constant-interval, interval-encloses, affine-encloses, piece-says}
 use Rattle.grade.proofs.SlopeLaws.{zeros-at, piece-gradient-encloses, affine-about}

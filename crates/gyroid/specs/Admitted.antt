@@ -166,10 +166,3 @@ module _ (d : Description) (lo hi : List ℤ) where
   Settles State.Inside = (p : Point) → InBox lo hi p → (h : Chosen) → admitted h p <F zeroF
   Settles State.Outside = (p : Point) → InBox lo hi p → (h : Chosen) → zeroF <F admitted h p
   Settles State.Unsettled = Unit {0}
-
-  -- some admitted residual of the box has the property P
-  pub record Some (P : Fraction → Type 0) : Type 0 where
-    pub p : Point
-    pub inside : InBox lo hi p
-    pub chosen : Chosen
-    pub says : P (admitted chosen p)

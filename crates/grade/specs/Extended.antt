@@ -1,0 +1,44 @@
+-- What the proofs say of the level besides: a piece in t, the affine extension and its slope, the positions of the anchors. No promise of a
+-- public call speaks by these. Definitions only; assumes nothing.
+use mathlib.Core.Bool.{cond}
+use Prim.Native.Nat.{ℕ}
+use lib.IntN.{natAbs, _-ℤ_, _*ℤ_}
+use Rattle.exact.specs.Fraction.{Fraction, whole, zeroF, oneF, _/F_, _≤F_}
+use Rattle.grade.specs.declared.Grade.{Grade}
+use Rattle.grade.specs.declared.Piece.{Piece}
+use Rattle.grade.specs.declared.Piece.the-variants.{Start, Ramp, End}
+use Rattle.grade.specs.declared.PieceAnswer.{PieceAnswer}
+use Rattle.grade.specs.declared.PieceAnswer.the-variants.{Found, None}
+use Rattle.grade.specs.declared.Axis.{Axis}
+use Rattle.grade.specs.declared.Axis.the-variants.{One}
+use Rattle.grade.specs.declared.Planes.{Planes}
+use Rattle.grade.specs.Grade.{at, Point, isLinear, direction, lengthSq, t, rampLevel}
+
+-- ---- what a piece says of t
+abbrev pub Says : PieceAnswer → Fraction → Type 0
+Says (Found Start) t = t ≤F zeroF
+Says (Found Ramp) t = (zeroF ≤F t) × (t ≤F oneF)
+Says (Found End) t = oneF ≤F t
+Says None t = Unit {0}
+
+-- ---- the positions of `from` and `to` on an axis
+abbrev pub positions : Axis → Grade → Planes
+positions (One i) g = Planes.Found i (at (g .from) i) (at (g .to) i)
+positions Axis.None g = Planes.None
+
+-- ---- the affine extension of the level, and its slope along an axis in level counts per tick
+unfoldable pub affineLevel : Grade → Point → Fraction
+affineLevel g p = cond (isLinear g) (rampLevel g (t g p)) (whole (g .start))
+
+unfoldable pub slope : Grade → ℕ → Fraction
+slope g i = cond (isLinear g) (whole (at (direction g) i *ℤ (g .end -ℤ g .start)) /F natAbs (lengthSq g)) zeroF
+
+-- the level's slope on a piece
+abbrev pub pieceSlope : Grade → Piece → ℕ → Fraction
+pieceSlope g Start i = zeroF
+pieceSlope g Ramp i = slope g i
+pieceSlope g End i = zeroF
+
+-- "A tick is 1/1024 mm; a level count is 1/1024.": ticks in millimetres, and level counts as levels
+abbrev pub inUnits : Fraction → Fraction
+inUnits q = q /F 1024
