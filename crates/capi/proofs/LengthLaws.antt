@@ -3,7 +3,7 @@ use mathlib.Core.Path.{_≡_, refl, sym, _∙_, subst⁻¹}
 use mathlib.Core.Bool.{Bool, true, false, not}
 use Prim.Native.Nat.{ℕ, _≤_}
 use native.Mathlib.Nat.{le-refl}
-use borrow.Author.Tests.{ltb-false}
+use borrow.Author.Tests.{ltb-false, eq-eqb, le-ltb}
 use lib.Dec.{T, eqb, ltb, eqb→eq}
 use Rattle.grade.specs.Refusals.{refused, _orElse_}
 use Rattle.grade.proofs.RefusalLaws.{none-first, none-last, kept}
@@ -28,6 +28,11 @@ sized d g w r n e z =
       argument = eqb→eq g w (kept (eqb g w) (first .0));
       room = ltb-false r n (not-false (ltb r n) (second .0));
     }
+
+-- and back: the right lengths refuse nothing
+pub right : {d g w r n : ℕ} → Sized d g w r n → lengths d g w r n ≡ 0
+unfolding lengths
+right {d} {g} {w} {r} {n} s = rw (eq-eqb d 18 (s .entries), eq-eqb g w (s .argument), le-ltb r n (s .room)) refl
 
 -- an argument of its length has that many numbers
 pub holds : {m n : ℕ} → m ≡ n → n ≤ m

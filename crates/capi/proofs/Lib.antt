@@ -4,3 +4,5 @@ mod NumberLaws
 mod AnswerLaws
 -- where the walk and the public `box_state` meet
 pub mod CellLaws
+-- what demand 3 supposes of the slices lent to the walk
+pub mod WalkLaws

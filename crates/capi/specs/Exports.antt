@@ -1,9 +1,10 @@
 -- What each exported call says of the slices lent to it, `room` being how many numbers the last one holds. Definitions only; assumes nothing.
+use mathlib.Core.Path.{_≡_}
 use mathlib.Core.Bool.{Bool, cond}
 use mathlib.Core.List.{List, [], _∷_, map}
 use Prim.Native.Nat.{ℕ, _+_}
 use lib.Dec.{eqb, ltb}
-use lib.IntN.{ℤ, pos}
+use lib.IntN.{ℤ, pos, natAbs}
 use lib.Ieee.{Float}
 use lib.ListN.{length}
 use Rattle.interval.specs.declared.Interval.{Interval}
@@ -16,7 +17,9 @@ use Rattle.grade.specs.Said.{Said, found, refusing, answered}
 use Rattle.gyroid.specs.declared.Jet.{Jet}
 use Rattle.calls.specs.declared.Derivatives.{Derivatives}
 use Rattle.calls.specs.Calls as calls
+use Rattle.tree.specs.Box.{boxFrom}
 use Rattle.walk.specs.Walk.{walkNumber, walkTable}
+use Rattle.walk.specs.Demand.{Supposed, Demand}
 use Rattle.capi.specs.Lent.{level, description, wholePoint, point, box, triangle, lengths, unless}
 
 -- ---- answers as rows of numbers
@@ -113,3 +116,12 @@ walkStatus ds ns D len = lengths (length ds) (length ns) 6 0 0 orElse walkNumber
 
 unfoldable pub walkLeft : List ℤ → List ℤ → ℤ → List ℕ → List ℕ
 walkLeft ds ns D t = cond (eqb (lengths (length ds) (length ns) 6 0 0) 0) (walkTable (description ds) (wholePoint ns 0) (wholePoint ns 3) D t) t
+
+-- DEMAND 3 of it: what is supposed, with slices of the right lengths, and what it says of the bytes t that are left in the table
+pub record WalkSupposed (ds ns : List ℤ) (D : ℤ) (len : ℕ) : Type 0 where
+  pub entries : length ds ≡ 18
+  pub ends : length ns ≡ 6
+  pub supposed : Supposed (description ds) (wholePoint ns 0) (wholePoint ns 3) D len
+
+abbrev pub WalkDemand : List ℤ → List ℤ → ℤ → List ℕ → Type 0
+WalkDemand ds ns D t = Demand (description ds) (boxFrom (wholePoint ns 0) (wholePoint ns 3)) (natAbs D) t

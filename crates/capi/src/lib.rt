@@ -290,6 +290,8 @@ pub extern "C" fn gyroid_walk(
 ) -> u32
     ensures answer { λ r. ⌜ r ≡ exports.walkStatus (now (description .entry)) (now (bounds .entry)) depth (length (now (table .entry))) ⌝ }
     ensures left { λ _. ⌜ now (table .exit) ≡ exports.walkLeft (now (description .entry)) (now (bounds .entry)) depth (now (table .entry)) ⌝ }
+    ensures demand { λ _. ⌜ (exports.WalkSupposed (now (description .entry)) (now (bounds .entry)) depth (length (now (table .entry)))
+        → exports.WalkDemand (now (description .entry)) (now (bounds .entry)) depth (now (table .exit))) ⌝ }
 {
     let number = lengths(description.len(), bounds.len(), 6, 0, 0);
     if number != 0 {

@@ -1,21 +1,24 @@
--- By what the lengths refuse, then by the walk. Assumes nothing.
-use mathlib.Core.Path.{_≡_, sym, ap, _∙_}
+-- By what the lengths refuse, then by what the walk promises. Assumes nothing.
+use mathlib.Core.Path.{_≡_, sym, ap, _∙_, transport}
 use mathlib.Core.List.{List}
 use Prim.Native.Nat.{ℕ}
 use native.Mathlib.Nat.{le-trans}
 use borrow.Author.Needs.{needs}
 use borrow.Author.Tests.{eq-eqb, ne-eqb}
 use lib.Dec.{eqb, lit≤}
-use lib.IntN.{ℤ}
+use lib.IntN.{ℤ, natAbs}
 use lib.ListN.{length}
 use mir.Syntax.{w64}
 use mir.Val.{toZ, ofZ, SFits}
 use Rattle.exact.proofs.Signed.{back}
 use Rattle.gyroid.specs.declared.Description.{Description}
+use Rattle.tree.specs.Box.{boxFrom}
 use Rattle.walk.specs.Walk.{walkNumber, walkTable}
+use Rattle.walk.specs.Demand.{Supposed, Demand}
 use Rattle.capi.specs.Lent.{description, wholePoint, lengths}
-use Rattle.capi.specs.Exports.{walkStatus, walkLeft}
+use Rattle.capi.specs.Exports.{walkStatus, walkLeft, WalkSupposed, WalkDemand}
 use Rattle.capi.proofs.LengthLaws.{sized, holds}
+use Rattle.capi.proofs.WalkLaws.{lengths-right}
 use Rattle.capi.proofs.gyroid_walk.Statement.{statement}
 use Rattle.capi.proofs.gyroid_walk.Tie as tie
 
@@ -23,16 +26,29 @@ module _ (ds ns : List ℤ) (D : ℤ) (t : List ℕ) {n : ℕ} (e : n ≡ length
   test : eqb (lengths (length ds) (length ns) 6 0 0) 0 ≡ eqb n 0
   test = ap (λ (k : ℕ). eqb k 0) (sym e)
 
-  stopped : (n ≡ 0 → ⊥) → (n ≡ walkStatus ds ns D (length t)) × (t ≡ walkLeft ds ns D t)
+  -- what is promised of a number and of the table's bytes
+  abbrev Promised : ℕ → List ℕ → Type 0
+  Promised r u = (r ≡ walkStatus ds ns D (length t)) × ((u ≡ walkLeft ds ns D t) × (WalkSupposed ds ns D (length t) → WalkDemand ds ns D u))
+
+  stopped : (n ≡ 0 → ⊥) → Promised n t
   unfolding walkStatus walkLeft
-  stopped h = let f = test ∙ ne-eqb n 0 h in (rw f e, rw f)
+  stopped h = let f = test ∙ ne-eqb n 0 h in (rw f e, (rw f, λ s. absurd (h (e ∙ lengths-right ds ns D (length t) s))))
 
   passed : n ≡ 0 → SFits w64 D → {d : Description} {lo hi : List ℤ} {r : ℕ} {u : List ℕ} → d ≡ description ds → lo ≡ wholePoint ns 0 → hi ≡ wholePoint ns 3
-      → r ≡ walkNumber d lo hi (toZ w64 (ofZ w64 D)) (length t) → u ≡ walkTable d lo hi (toZ w64 (ofZ w64 D)) t → (r ≡ walkStatus ds ns D (length t)) × (u ≡ walkLeft ds ns D t)
+      → r ≡ walkNumber d lo hi (toZ w64 (ofZ w64 D)) (length t)
+      → u ≡ walkTable d lo hi (toZ w64 (ofZ w64 D)) t
+      → (Supposed d lo hi (toZ w64 (ofZ w64 D)) (length t) → Demand d (boxFrom lo hi) (natAbs (toZ w64 (ofZ w64 D))) u)
+      → Promised r u
   unfolding walkStatus walkLeft
-  passed h fits a b c p q =
+  passed h fits {u} a b c p q demand =
       let f = test ∙ eq-eqb n 0 h in
-      (rw f (p ∙ (λ i. walkNumber (a i) (b i) (c i) (back {x = D} fits i) (length t))), rw f (q ∙ (λ i. walkTable (a i) (b i) (c i) (back {x = D} fits i) t)))
+      let D-is = back {x = D} fits in (
+        rw f (p ∙ (λ i. walkNumber (a i) (b i) (c i) (D-is i) (length t))),
+        (
+          rw f (q ∙ (λ i. walkTable (a i) (b i) (c i) (D-is i) t)),
+          λ s. transport (λ i. Supposed (a i) (b i) (c i) (D-is i) (length t) → Demand (a i) (boxFrom (b i) (c i)) (natAbs (D-is i)) u) demand (s .supposed),
+        ),
+      )
 
 returns : tie.Need-returns
 returns c =
@@ -57,8 +73,9 @@ returns-2 c =
     let h = w .before .before in
     let e = h .before .before .before in
     let s = e .before .before .before in
-    passed (s .args .description .now) (s .args .bounds .now) (s .args .depth) (s .args .table .now) (e .before .lengths .ensures) (e .if1 .left) (s .fits .depth)
-    (h .before .before .describe .ensures) (h .before .whole-point .ensures) (h .whole-point2 .ensures) (w .walk .ensures .0) (w .walk .ensures .1 .0)
+    passed (s .args .description .now) (s .args .bounds .now) (s .args .depth) (s .args .table .now)
+    (e .before .lengths .ensures) (e .if1 .left) (s .fits .depth)
+    (h .before .before .describe .ensures) (h .before .whole-point .ensures) (h .whole-point2 .ensures) (w .walk .ensures .0) (w .walk .ensures .1 .0) (w .walk .ensures .1 .1)
 
 pub gyroid-walk-spec : {M : Type 1} → statement M
 gyroid-walk-spec = tie.close (tie.spec (λ _ _. tt) returns describe-requires whole-point-requires whole-point-requires-2 (λ _ _. tt) same-length returns-2)
