@@ -8,9 +8,9 @@ use lib.IntN.{ℤ}
 use lib.ListN.{drop, getD}
 use lib.Seq.{getD-drop}
 use Rattle.table.specs.Table.{Mark, word4, word8, bits, headBytes, cellBytes}
-use Rattle.table.specs.Read.{u32At, u64At, i32At, signed, nextIn, markIn}
+use Rattle.table.specs.Read.{u32At, u64At, i32At, twosComplement, nextIn, markIn}
 use Rattle.table.specs.Bounds.{FitsI32, Fits}
-use Rattle.table.proofs.Words.{digits, two-words, signed-bits, bits-below}
+use Rattle.table.proofs.Words.{digits, two-words, twos-complement-bits, bits-below}
 
 -- ---- slot 0 at the front
 module _ (cells evaluated solid vacant : ℕ) (r : List ℕ) where
@@ -38,8 +38,8 @@ module _ (cells evaluated solid vacant : ℕ) (r : List ℕ) where
   head-open h = two-words vacant (digits (vacant % 4294967296) (omega arith)) (digits (vacant / 4294967296) (omega arith))
 
 -- ---- a cell at the front
-coordinate : (z : ℤ) {w : ℕ} → FitsI32 z → w ≡ bits z % 256 + bits z / 256 % 256 * 256 + bits z / 65536 % 256 * 65536 + bits z / 16777216 % 256 * 16777216 → signed w ≡ z
-coordinate z h e = ap signed (e ∙ digits (bits z) (bits-below z h)) ∙ signed-bits z h
+coordinate : (z : ℤ) {w : ℕ} → FitsI32 z → w ≡ bits z % 256 + bits z / 256 % 256 * 256 + bits z / 65536 % 256 * 65536 + bits z / 16777216 % 256 * 16777216 → twosComplement w ≡ z
+coordinate z h e = ap twosComplement (e ∙ digits (bits z) (bits-below z h)) ∙ twos-complement-bits z h
 
 module _ (next : ℕ) (m : Mark) (r : List ℕ) where
   abbrev cell : List ℕ
@@ -104,12 +104,12 @@ module _ (t r : List ℕ) (slot next : ℕ) (m : Mark) (e : drop (32 * slot) t �
       (λ i. record {
         state = word-at t f (32 * slot) 4 e i;
         box = record {
-          lx = signed (word-at t f (32 * slot) 8 e i);
-          ly = signed (word-at t f (32 * slot) 12 e i);
-          lz = signed (word-at t f (32 * slot) 16 e i);
-          hx = signed (word-at t f (32 * slot) 20 e i);
-          hy = signed (word-at t f (32 * slot) 24 e i);
-          hz = signed (word-at t f (32 * slot) 28 e i);
+          lx = twosComplement (word-at t f (32 * slot) 8 e i);
+          ly = twosComplement (word-at t f (32 * slot) 12 e i);
+          lz = twosComplement (word-at t f (32 * slot) 16 e i);
+          hx = twosComplement (word-at t f (32 * slot) 20 e i);
+          hy = twosComplement (word-at t f (32 * slot) 24 e i);
+          hz = twosComplement (word-at t f (32 * slot) 28 e i);
         };
       })
       ∙ cell-mark next m r h

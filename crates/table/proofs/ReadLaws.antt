@@ -9,7 +9,7 @@ use lib.Dec.{ltb}
 use lib.IntN.{pos, negsuc}
 use lib.ListN.{length, getD, List·getD-eq-default}
 use Rattle.exact.specs.Within.{Within}
-use Rattle.table.specs.Read.{u32At, i32At, signed, nextIn, markIn, chain}
+use Rattle.table.specs.Read.{u32At, i32At, twosComplement, nextIn, markIn, chain}
 
 -- ---- the chain
 pub chain-end : (n : ℕ) (t : List ℕ) (slot : ℕ) → n ≤ 0 → chain n t slot ≡ []
@@ -52,15 +52,15 @@ u32-past t i h =
     omega arith
 
 pub i32-past : (t : List ℕ) (i : ℕ) → length t ≤ i → i32At t i ≡ pos 0
-i32-past t i h = ap signed (u32-past t i h)
+i32-past t i h = ap twosComplement (u32-past t i h)
 
 -- ---- an i32's size
-signed-within : (w : ℕ) → Within 2147483648 (signed w)
-signed-within w = go (ltb w 2147483648) refl
+twos-complement-within : (w : ℕ) → Within 2147483648 (twosComplement w)
+twos-complement-within w = go (ltb w 2147483648) refl
   where
     go : (b : Bool) → ltb w 2147483648 ≡ b → Within 2147483648 (cond b (pos w) (negsuc (4294967295 - w)))
     go true e = record { abs = omega (arith, ltb-true w 2147483648 e) }
     go false e = record { abs = omega (arith, ltb-false w 2147483648 e) }
 
 pub i32-within : (t : List ℕ) (i : ℕ) → Within 2147483648 (i32At t i)
-i32-within t i = signed-within (u32At t i)
+i32-within t i = twos-complement-within (u32At t i)

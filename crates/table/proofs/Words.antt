@@ -11,7 +11,7 @@ use Rattle.exact.proofs.Choice.{choose}
 use Rattle.exact.proofs.IntegerOrder.{zarith}
 use Rattle.tree.specs.Box.{unshifted}
 use Rattle.table.specs.Table.{word4, word8, bits}
-use Rattle.table.specs.Read.{signed}
+use Rattle.table.specs.Read.{twosComplement}
 use Rattle.table.specs.Bounds.{FitsI32}
 
 pub length-word4 : (x : ℕ) → length (word4 x) ≡ 4
@@ -49,18 +49,18 @@ shifted-bits u h = choose (ltb u 1048576) (negsuc (1048576 - suc u)) (pos (u - 1
     above : (u : ℕ) → u ≤ 2097152 → 1048576 ≤ u → (u + 4293918720) % 4294967296 ≡ u - 1048576
     above u h k = omega arith
 
-pub signed-low : (w : ℕ) → w < 2147483648 → signed w ≡ pos w
-signed-low w h = rw (lt-ltb w 2147483648 h)
+pub twos-complement-low : (w : ℕ) → w < 2147483648 → twosComplement w ≡ pos w
+twos-complement-low w h = rw (lt-ltb w 2147483648 h)
 
-pub signed-high : (w : ℕ) → 2147483648 ≤ w → w < 4294967296 → signed w ≡ pos w -ℤ pos 4294967296
-signed-high w h k = rw (le-ltb w 2147483648 h, lt-ltb w 4294967296 k) (ap negsuc (omega arith))
+pub twos-complement-high : (w : ℕ) → 2147483648 ≤ w → w < 4294967296 → twosComplement w ≡ pos w -ℤ pos 4294967296
+twos-complement-high w h k = rw (le-ltb w 2147483648 h, lt-ltb w 4294967296 k) (ap negsuc (omega arith))
 
 -- an i32 comes back from its bits, which are a u32
-pub signed-bits : (z : ℤ) → FitsI32 z → signed (bits z) ≡ z
-signed-bits (pos n) h = signed-low n (omega (zarith, h .most))
-signed-bits (negsuc n) h =
+pub twos-complement-bits : (z : ℤ) → FitsI32 z → twosComplement (bits z) ≡ z
+twos-complement-bits (pos n) h = twos-complement-low n (omega (zarith, h .most))
+twos-complement-bits (negsuc n) h =
     let k : n ≤ 2147483647 = omega (zarith, h .least) in
-    signed-high (4294967295 - n) (omega arith) (omega arith) ∙ rw (lt-ltb (4294967295 - n) 4294967296 (omega arith)) (ap negsuc (omega arith))
+    twos-complement-high (4294967295 - n) (omega arith) (omega arith) ∙ rw (lt-ltb (4294967295 - n) 4294967296 (omega arith)) (ap negsuc (omega arith))
 
 pub bits-below : (z : ℤ) → FitsI32 z → bits z < 4294967296
 bits-below (pos n) h = omega (zarith, h .most)

@@ -15,11 +15,12 @@ u32At t i = getD t i 0 + getD t (i + 1) 0 * 256 + getD t (i + 2) 0 * 65536 + get
 abbrev pub u64At : List ℕ → ℕ → ℕ
 u64At t i = u32At t i + u32At t (i + 4) * 4294967296
 
-abbrev pub signed : ℕ → ℤ
-signed w = cond (ltb w 2147483648) (pos w) (negsuc (4294967295 - w))
+-- 32 bits as an i32
+abbrev pub twosComplement : ℕ → ℤ
+twosComplement w = cond (ltb w 2147483648) (pos w) (negsuc (4294967295 - w))
 
 abbrev pub i32At : List ℕ → ℕ → ℤ
-i32At t i = signed (u32At t i)
+i32At t i = twosComplement (u32At t i)
 
 -- ---- slot 0: "first cell (u32, 1), cells (u32), evaluated (u32), solid volume (u64), open volume (u64)"
 abbrev pub firstIn : List ℕ → ℕ

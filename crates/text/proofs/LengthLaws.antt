@@ -15,7 +15,7 @@ use Rattle.text.specs.declared.parse.Number.{Number}
 use Rattle.text.specs.declared.parse.Number.the-variants.{Found, Nothing}
 use Rattle.text.specs.declared.parse.Line.{Line}
 use Rattle.text.specs.Ascii.{minus, nought}
-use Rattle.text.specs.Line.{byteAt, isDigit, digitsAt, signed, someDigits, numberAt, separator, onFound, refusedLine, lineFrom, lineOf}
+use Rattle.text.specs.Line.{byteAt, isDigit, digitsAt, withMinus, someDigits, numberAt, separator, onFound, refusedLine, lineFrom, lineOf}
 use Rattle.text.specs.Listing.{refusedText}
 use Rattle.text.specs.Cells.{cellsText}
 
@@ -42,7 +42,7 @@ Ends n (Found x next) = next ≤ n
 some-ends : (n : ℕ) (below : Bool) (i : ℕ) (d : Digits) → d .next ≤ n → Ends n (someDigits below i d)
 some-ends n below i d h = go (eqb (d .next) i)
   where
-    go : (b : Bool) → Ends n (cond b Nothing (Found (signed below (d .value)) (d .next)))
+    go : (b : Bool) → Ends n (cond b Nothing (Found (withMinus below (d .value)) (d .next)))
     go true = tt
     go false = h
 

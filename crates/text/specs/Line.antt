@@ -29,12 +29,12 @@ digitsAt (suc most) v t i =
     (record { value = v; next = i })
 
 -- "a minus or none"
-abbrev pub signed : Bool → ℕ → ℤ
-signed below v = cond below (negℤ (pos v)) (pos v)
+abbrev pub withMinus : Bool → ℕ → ℤ
+withMinus below v = cond below (negℤ (pos v)) (pos v)
 
 -- the digits from index i on, one at least, with their sign
 abbrev pub someDigits : Bool → ℕ → Digits → Number
-someDigits below i d = cond (eqb (d .next) i) Nothing (Found (signed below (d .value)) (d .next))
+someDigits below i d = cond (eqb (d .next) i) Nothing (Found (withMinus below (d .value)) (d .next))
 
 -- "a minus or none, 1 to 7 digits": an eighth digit is neither the space nor the newline that has to follow
 unfoldable pub numberAt : List ℕ → ℕ → Number

@@ -1,7 +1,7 @@
 // The line of 17 numbers, read from bytes. Each function equals its definition in specs/.
 ghost use mathlib.Core.Path.{_≡_};
 ghost use Prim.Native.Nat.{_<_};
-ghost use Rattle.text.specs.Line.{byteAt, isDigit, digitsAt, signed, someDigits, numberAt, separator, refusedLine, lineOf};
+ghost use Rattle.text.specs.Line.{byteAt, isDigit, digitsAt, withMinus, someDigits, numberAt, separator, refusedLine, lineOf};
 use crate::ascii::MINUS;
 use crate::ascii::NEWLINE;
 use crate::ascii::NINE;
@@ -77,9 +77,9 @@ fn digits_at(t: &[u8], from: usize) -> Digits
 }
 
 // A number of at most seven digits with its sign.
-fn signed(minus: bool, value: usize) -> i64
+fn with_minus(minus: bool, value: usize) -> i64
     requires { ⌜ value < 10000000 ⌝ }
-    ensures { λ r. ⌜ r ≡ signed minus value ⌝ }
+    ensures { λ r. ⌜ r ≡ withMinus minus value ⌝ }
 {
     if minus {
         return 0 - value as i64;
@@ -95,7 +95,7 @@ fn some_digits(minus: bool, from: usize, d: Digits) -> Number
     if d.next == from {
         return Number::Nothing;
     }
-    Number::Found(signed(minus, d.value), d.next)
+    Number::Found(with_minus(minus, d.value), d.next)
 }
 
 // The number from an index on.

@@ -9,7 +9,7 @@ use lib.ListN.{length, length-append}
 use lib.Pow.{pow-pos, pow-mono}
 use Rattle.tree.specs.declared.Axis.{Axis}
 use Rattle.tree.specs.Box.{Box}
-use Rattle.tree.specs.Tree.{Cell, stops, lowerHalf, upperHalf, cells, leaves, boxes}
+use Rattle.tree.specs.Tree.{Cell, stops, lowerHalf, upperHalf, cells, leaves, boxCount}
 
 module _ (settled : Box → Bool) (axis : Box → Axis) where
   pub length-cells : (d k : ℕ) (b : Box) → length (cells settled axis d k b) ≡ leaves settled axis d b
@@ -24,10 +24,10 @@ module _ (settled : Box → Bool) (axis : Box → Axis) where
       both false c cs ds m n e f = rw (length-append cs ds, e, f)
 
   -- each box is halved or a cell, and there is one cell more than there are halved boxes
-  pub boxes-leaves : (d : ℕ) (b : Box) → boxes settled axis d b + 1 ≡ 2 * leaves settled axis d b
-  unfolding boxes leaves
-  boxes-leaves zero b = refl
-  boxes-leaves (suc d) b = both (stops settled axis b) _ _ _ _ (boxes-leaves d (lowerHalf settled axis b)) (boxes-leaves d (upperHalf settled axis b))
+  pub box-count-leaves : (d : ℕ) (b : Box) → boxCount settled axis d b + 1 ≡ 2 * leaves settled axis d b
+  unfolding boxCount leaves
+  box-count-leaves zero b = refl
+  box-count-leaves (suc d) b = both (stops settled axis b) _ _ _ _ (box-count-leaves d (lowerHalf settled axis b)) (box-count-leaves d (upperHalf settled axis b))
     where
       both : (t : Bool) (m n p q : ℕ) → m + 1 ≡ 2 * p → n + 1 ≡ 2 * q → cond t 1 (1 + m + n) + 1 ≡ 2 * cond t 1 (p + q)
       both true m n p q e f = refl
@@ -43,11 +43,11 @@ module _ (settled : Box → Bool) (axis : Box → Axis) where
       both false m n p q = rw (two-pow-succ d) (omega arith)
 
   pub leaves-least : (d : ℕ) (b : Box) → 1 ≤ leaves settled axis d b
-  leaves-least d b = omega (arith, boxes-leaves d b)
+  leaves-least d b = omega (arith, box-count-leaves d b)
 
   -- "depth" is at most 24
   pub leaves-small : (d : ℕ) (b : Box) → d ≤ 24 → leaves settled axis d b ≤ 16777216
   leaves-small d b h = le-trans (leaves-le d b) (pow-mono h)
 
-  pub boxes-small : (d : ℕ) (b : Box) → d ≤ 24 → boxes settled axis d b ≤ 33554431
-  boxes-small d b h = omega (arith, boxes-leaves d b, leaves-small d b h)
+  pub box-count-small : (d : ℕ) (b : Box) → d ≤ 24 → boxCount settled axis d b ≤ 33554431
+  box-count-small d b h = omega (arith, box-count-leaves d b, leaves-small d b h)

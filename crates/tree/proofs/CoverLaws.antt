@@ -12,8 +12,8 @@ use lib.Signed.{leZ, leZ-yes, _≤ℤ_, _<ℤ_}
 use Rattle.exact.proofs.IntegerOrder.{le-or-lt, <ℤ-le, sum-parts, zarith}
 use Rattle.tree.specs.declared.Axis.{Axis}
 use Rattle.tree.specs.declared.Axis.the-variants.{X, Y, Z}
-use Rattle.tree.specs.Box.{Box, Good, low, high, middle, lower, upper, between, holdsCube, holders}
-use Rattle.tree.specs.Tree.{Cell, cells, Fair, boxesOf}
+use Rattle.tree.specs.Box.{Box, Good, low, high, middle, lower, upper, liesBetween, holdsCube, holders}
+use Rattle.tree.specs.Tree.{Cell, cells, Fair, cellBoxes}
 use Rattle.tree.proofs.Spans.{middle-least, middle-below}
 use Rattle.tree.proofs.TreeInduction.{tree-ind}
 
@@ -29,8 +29,8 @@ abbrev one : Bool → ℕ
 one t = cond t 1 0
 
 -- ---- on one axis: between two ends is on one side of the middle, and not on both
-between-halves : (x l m h : ℤ) → l ≤ℤ m → m ≤ℤ h → one (between x l h) ≡ one (between x l m) + one (between x m h)
-between-halves x l m h p q = by-tests (leZ l x) (leZ m x) (leZ (x +ℤ pos 1) m) (leZ (x +ℤ pos 1) h) refl refl refl refl
+lies-between-halves : (x l m h : ℤ) → l ≤ℤ m → m ≤ℤ h → one (liesBetween x l h) ≡ one (liesBetween x l m) + one (liesBetween x m h)
+lies-between-halves x l m h p q = by-tests (leZ l x) (leZ m x) (leZ (x +ℤ pos 1) m) (leZ (x +ℤ pos 1) h) refl refl refl refl
   where
     by-tests : (s t u v : Bool) → leZ l x ≡ s → leZ m x ≡ t → leZ (x +ℤ pos 1) m ≡ u → leZ (x +ℤ pos 1) h ≡ v → one (s && v) ≡ one (s && u) + one (t && v)
     by-tests true true true v a b c d = let e = test-true m x b in let f = test-true (x +ℤ pos 1) m c in absurd (omega (zarith, sum-parts x (pos 1)))
@@ -53,17 +53,17 @@ split-right false s t u e = refl
 
 -- along an axis: between the ends, and on either side of the middle
 abbrev along : ℤ → Axis → Box → Bool
-along c a b = between c (low a b) (high a b)
+along c a b = liesBetween c (low a b) (high a b)
 
 abbrev below : ℤ → Axis → Box → Bool
-below c a b = between c (low a b) (middle a b)
+below c a b = liesBetween c (low a b) (middle a b)
 
 abbrev above : ℤ → Axis → Box → Bool
-above c a b = between c (middle a b) (high a b)
+above c a b = liesBetween c (middle a b) (high a b)
 
 along-halves : (c : ℤ) (a : Axis) (b : Box) → Good b → one (along c a b) ≡ one (below c a b) + one (above c a b)
 along-halves c a b g =
-    between-halves c (low a b) (middle a b) (high a b) (middle-least (low a b) (high a b) (g .spans a)) (<ℤ-le (middle-below (low a b) (high a b) (g .spans a)))
+    lies-between-halves c (low a b) (middle a b) (high a b) (middle-least (low a b) (high a b) (g .spans a)) (<ℤ-le (middle-below (low a b) (high a b) (g .spans a)))
 
 pub holds-halves : (x y z : ℤ) (a : Axis) (b : Box) → Good b → one (holdsCube x y z b) ≡ one (holdsCube x y z (lower a b)) + one (holdsCube x y z (upper a b))
 unfolding holdsCube lower upper
@@ -76,26 +76,26 @@ holds-halves x y z Y b g =
 holds-halves x y z Z b g = split-right (along x X b && along y Y b) (along z Z b) (below z Z b) (above z Z b) (along-halves z Z b g)
 
 -- ---- the cells
-boxes-append : (x y z : ℤ) (cs ds : List Cell) → holders x y z (boxesOf (cs ++ ds)) ≡ holders x y z (boxesOf cs) + holders x y z (boxesOf ds)
-unfolding holders boxesOf
-boxes-append x y z [] ds = omega arith
-boxes-append x y z (c ∷ cs) ds = omega (arith, boxes-append x y z cs ds)
+cell-boxes-append : (x y z : ℤ) (cs ds : List Cell) → holders x y z (cellBoxes (cs ++ ds)) ≡ holders x y z (cellBoxes cs) + holders x y z (cellBoxes ds)
+unfolding holders cellBoxes
+cell-boxes-append x y z [] ds = omega arith
+cell-boxes-append x y z (c ∷ cs) ds = omega (arith, cell-boxes-append x y z cs ds)
 
-one-cell : (x y z : ℤ) (c : Cell) → holders x y z (boxesOf (c ∷ [])) ≡ one (holdsCube x y z (c .box))
-unfolding holders boxesOf
+one-cell : (x y z : ℤ) (c : Cell) → holders x y z (cellBoxes (c ∷ [])) ≡ one (holdsCube x y z (c .box))
+unfolding holders cellBoxes
 one-cell x y z c = add-zero (one (holdsCube x y z (c .box)))
 
 -- ---- the boxes of a list of cells, one by one
-pub boxes-none : boxesOf [] ≡ []
-unfolding boxesOf
-boxes-none = refl
+pub cell-boxes-none : cellBoxes [] ≡ []
+unfolding cellBoxes
+cell-boxes-none = refl
 
-pub boxes-more : (c : Cell) (cs : List Cell) → boxesOf (c ∷ cs) ≡ c .box ∷ boxesOf cs
-unfolding boxesOf
-boxes-more c cs = refl
+pub cell-boxes-more : (c : Cell) (cs : List Cell) → cellBoxes (c ∷ cs) ≡ c .box ∷ cellBoxes cs
+unfolding cellBoxes
+cell-boxes-more c cs = refl
 
-pub cover : (settled : Box → Bool) (axis : Box → Axis) → Fair axis → (x y z : ℤ) (d k : ℕ) (b : Box) → Good b → holders x y z (boxesOf (cells settled axis d k b)) ≡ cond (holdsCube x y z b) 1 0
+pub cover : (settled : Box → Bool) (axis : Box → Axis) → Fair axis → (x y z : ℤ) (d k : ℕ) (b : Box) → Good b → holders x y z (cellBoxes (cells settled axis d k b)) ≡ cond (holdsCube x y z b) 1 0
 cover settled axis fair x y z =
-    tree-ind settled axis fair (λ d k b cs. holders x y z (boxesOf cs) ≡ one (holdsCube x y z b))
+    tree-ind settled axis fair (λ d k b cs. holders x y z (cellBoxes cs) ≡ one (holdsCube x y z b))
     (λ k b g. one-cell x y z (record { box = b; depth = k })) (λ d k b g e. one-cell x y z (record { box = b; depth = k }))
-    (λ d k b cs ds g e p q. boxes-append x y z cs ds ∙ (λ i. p i + q i) ∙ sym (holds-halves x y z (axis b) b g))
+    (λ d k b cs ds g e p q. cell-boxes-append x y z cs ds ∙ (λ i. p i + q i) ∙ sym (holds-halves x y z (axis b) b g))

@@ -17,5 +17,5 @@ pub mod TreeInduction
 pub mod SolidLaws
 -- the tick cubes of its cells, why each is a cell, and what more depth makes of them
 pub mod CoverLaws
-pub mod MarkedLaws
+pub mod StoppedLaws
 pub mod DepthLaws

@@ -87,11 +87,11 @@ volume b = span X b * span Y b * span Z b
 
 -- ---- "A tick cube has whole ticks as corners and edges of one tick; it is in a cell when it lies between the cell's lows and highs on each
 -- axis." The cube with the low corner x, y, z
-abbrev pub between : ℤ → ℤ → ℤ → Bool
-between x l h = leZ l x && leZ (x +ℤ pos 1) h
+abbrev pub liesBetween : ℤ → ℤ → ℤ → Bool
+liesBetween x l h = leZ l x && leZ (x +ℤ pos 1) h
 
 unfoldable pub holdsCube : ℤ → ℤ → ℤ → Box → Bool
-holdsCube x y z b = between x (b .lx) (b .hx) && between y (b .ly) (b .hy) && between z (b .lz) (b .hz)
+holdsCube x y z b = liesBetween x (b .lx) (b .hx) && liesBetween y (b .ly) (b .hy) && liesBetween z (b .lz) (b .hz)
 
 -- how many of the boxes a cube is in
 unfoldable pub holders : ℤ → ℤ → ℤ → List Box → ℕ

@@ -13,7 +13,7 @@ All P [] = Unit {0}
 All P (c ∷ cs) = P c × All P cs
 
 -- why a box of the tree isn't halved: it is at the depth limit, or it is settled or one tick cube
-pub record Marked (settled : Box → Bool) (axis : Box → Axis) (limit : ℕ) (c : Cell) : Type 0 where
+pub record Stopped (settled : Box → Bool) (axis : Box → Axis) (limit : ℕ) (c : Cell) : Type 0 where
   pub good : Good (c .box)
   pub depth-le : c .depth ≤ limit
   pub why : (c .depth ≡ limit) ⊎ (stops settled axis (c .box) ≡ true)

@@ -34,18 +34,18 @@ module _ (settled : Box → Bool) (axis : Box → Axis) where
   leaves (suc d) b = cond (stops b) 1 (leaves d (lowerHalf b) + leaves d (upperHalf b))
 
   -- "Evaluated is the number of boxes in the tree, each taken once"
-  unfoldable pub boxes : ℕ → Box → ℕ
-  boxes zero b = 1
-  boxes (suc d) b = cond (stops b) 1 (1 + boxes d (lowerHalf b) + boxes d (upperHalf b))
+  unfoldable pub boxCount : ℕ → Box → ℕ
+  boxCount zero b = 1
+  boxCount (suc d) b = cond (stops b) 1 (1 + boxCount d (lowerHalf b) + boxCount d (upperHalf b))
 
 -- a choice of the axis is fair if it takes no span of 1 of a box that is no tick cube
 unfoldable pub Fair : (Box → Axis) → Type 0
 Fair axis = (b : Box) → Good b → oneCube b ≡ false → 2 ≤ span (axis b) b
 
 -- the boxes of a list of cells
-unfoldable pub boxesOf : List Cell → List Box
-boxesOf [] = []
-boxesOf (c ∷ cs) = c .box ∷ boxesOf cs
+unfoldable pub cellBoxes : List Cell → List Box
+cellBoxes [] = []
+cellBoxes (c ∷ cs) = c .box ∷ cellBoxes cs
 
 -- the tick cubes of the cells whose box has a property: "Solid volume is the tick cubes of inside cells"
 unfoldable pub volumeOf : (Box → Bool) → List Cell → ℕ

@@ -26,14 +26,14 @@ use Rattle.gyroid.proofs.EnclosureLaws.{state-settles}
 use Rattle.tree.specs.declared.Axis.the-variants.{X, Y, Z}
 use Rattle.tree.specs.Box.{Box, Good, lows, highs, longest, oneCube, volume, holdsCube, holders}
 use Rattle.tree.specs.Tree.{Cell, leaves}
-use Rattle.tree.specs.Cells.{All, Marked}
+use Rattle.tree.specs.Cells.{All, Stopped}
 use Rattle.tree.proofs.TickLaws.{good-ticks}
 use Rattle.tree.proofs.LongestLaws.{fair-longest}
 use Rattle.tree.proofs.VolumeLaws.{volume-small}
-use Rattle.tree.proofs.CountLaws.{boxes-leaves, leaves-le, leaves-least, leaves-small, boxes-small}
+use Rattle.tree.proofs.CountLaws.{box-count-leaves, leaves-le, leaves-least, leaves-small, box-count-small}
 use Rattle.tree.proofs.SolidLaws.{solid-le}
 use Rattle.tree.proofs.CoverLaws.{cover}
-use Rattle.tree.proofs.MarkedLaws.{marked}
+use Rattle.tree.proofs.StoppedLaws.{stopped}
 use Rattle.table.specs.Table.{Mark, tableBytes}
 use Rattle.table.specs.Read.{cellsIn, marksIn}
 use Rattle.table.specs.Bounds.{Fits, AllFit}
@@ -41,8 +41,8 @@ use Rattle.table.specs.Told.{Told}
 use Rattle.table.proofs.BoundLaws.{good-fits}
 use Rattle.table.proofs.ReadBack.{told}
 use Rattle.walk.specs.Walk.{stateAt, isSettled, settled, inside, cellsOf, evaluatedOf, solidOf, openOf, markOf, marksOf, tableOf, roomRefusal, roomTable}
-use Rattle.walk.specs.Demand.{Every, Pairwise, boxesIn, AllBelowZero, AllAboveZero, Undecided, Demand}
-use Rattle.walk.proofs.MarkLaws.{marks-leaves, boxes-marks, every, pairwise}
+use Rattle.walk.specs.Demand.{Every, Pairwise, markBoxes, AllBelowZero, AllAboveZero, Undecided, Demand}
+use Rattle.walk.proofs.MarkLaws.{marks-leaves, mark-boxes-are, every, pairwise}
 
 -- ---- a state by its number
 number-inside : (s : State) → stateNumber s ≡ 1 → s ≡ Inside
@@ -93,7 +93,7 @@ cube-stops s c e t = subst (λ (r : State). (isSettled r || c) ≡ true) e t
 
 module _ (d : Description) (accepted : Accepted d) (D : ℕ) where
   -- ---- of one cell of the tree
-  module _ (c : Cell) (m : Marked (settled (leaf d)) longest D c) where
+  module _ (c : Cell) (m : Stopped (settled (leaf d)) longest D c) where
     settles : Settles d (lows (c .box)) (highs (c .box)) (stateAt (leaf d) (c .box))
     unfolding stateAt
     settles = state-settles d accepted (lows (c .box)) (highs (c .box)) (lows-ticks (c .box) (m .good)) (highs-ticks (c .box) (m .good))
@@ -123,10 +123,10 @@ module _ (d : Description) (accepted : Accepted d) (D : ℕ) where
     abbrev ms : List Mark
     ms = marksOf (leaf d) cs
 
-    pub each : All (Marked (settled (leaf d)) longest D) cs
-    each = subst (λ (k : ℕ). All (Marked (settled (leaf d)) longest k) cs) (zero-add D) (marked (settled (leaf d)) longest fair-longest D 0 b good)
+    pub each : All (Stopped (settled (leaf d)) longest D) cs
+    each = subst (λ (k : ℕ). All (Stopped (settled (leaf d)) longest k) cs) (zero-add D) (stopped (settled (leaf d)) longest fair-longest D 0 b good)
 
-    all-fit : (cs : List Cell) → All (Marked (settled (leaf d)) longest D) cs → AllFit (marksOf (leaf d) cs)
+    all-fit : (cs : List Cell) → All (Stopped (settled (leaf d)) longest D) cs → AllFit (marksOf (leaf d) cs)
     unfolding marksOf
     all-fit [] q = tt
     all-fit (c ∷ cs) q = (fits c (q .0), all-fit cs (q .1))
@@ -141,17 +141,17 @@ module _ (d : Description) (accepted : Accepted d) (D : ℕ) where
     read len =
         let v = volume-small b good in
         told len (evaluatedOf (leaf d) D b) (solidOf (leaf d) D b) (openOf (leaf d) D b) ms (all-fit cs each)
-        (omega (arith, cells-many, leaves-small (settled (leaf d)) longest D b shallow)) (omega (arith, boxes-small (settled (leaf d)) longest D b shallow))
+        (omega (arith, cells-many, leaves-small (settled (leaf d)) longest D b shallow)) (omega (arith, box-count-small (settled (leaf d)) longest D b shallow))
         (omega (arith, solid-most, v)) (omega (arith, v))
 
     -- the tick cubes that a list of the tree's boxes holds
-    covered : (x y z : ℤ) → holders x y z (boxesIn ms) ≡ cond (holdsCube x y z b) 1 0
-    covered x y z = ap (holders x y z) (boxes-marks (leaf d) cs) ∙ cover (settled (leaf d)) longest fair-longest x y z D 0 b good
+    covered : (x y z : ℤ) → holders x y z (markBoxes ms) ≡ cond (holdsCube x y z b) 1 0
+    covered x y z = ap (holders x y z) (mark-boxes-are (leaf d) cs) ∙ cover (settled (leaf d)) longest fair-longest x y z D 0 b good
 
     -- ---- what a table says whose reading this is
     module _ (t : List ℕ) (r : Told t (evaluatedOf (leaf d) D b) (solidOf (leaf d) D b) (openOf (leaf d) D b) ms) where
-      holders-are : (x y z : ℤ) → holders x y z (boxesIn (marksIn t)) ≡ cond (holdsCube x y z b) 1 0
-      holders-are x y z = ap (λ (l : List Mark). holders x y z (boxesIn l)) (r .marks-are) ∙ covered x y z
+      holders-are : (x y z : ℤ) → holders x y z (markBoxes (marksIn t)) ≡ cond (holdsCube x y z b) 1 0
+      holders-are x y z = ap (λ (l : List Mark). holders x y z (markBoxes l)) (r .marks-are) ∙ covered x y z
 
       cells-read : cellsIn t ≡ leaves (settled (leaf d)) longest D b
       cells-read = r .cells-are ∙ cells-many
@@ -166,8 +166,8 @@ module _ (d : Description) (accepted : Accepted d) (D : ℕ) where
             (pairwise (leaf d) _ _ (λ c m. (undecided c m, unsettled-number c)) cs each);
         walk-order = subst⁻¹ (λ (l : List Mark). Pairwise (λ m c. m .box ≡ c .box) l cs) (r .marks-are) (pairwise (leaf d) _ _ (λ c m. refl) cs each);
         marked = subst⁻¹ (Every (λ m. (m .state ≡ 3 → ⊥) → (m .state ≡ 1) ⊎ (m .state ≡ 2))) (r .marks-are) (every (leaf d) _ _ (λ c m. number-other (stateAt (leaf d) (c .box))) cs each);
-        evaluated = omega (arith, r .evaluated-is, cells-read, boxes-leaves (settled (leaf d)) longest D b);
-        evaluated-most = omega (arith, r .evaluated-is, boxes-leaves (settled (leaf d)) longest D b, leaves-le (settled (leaf d)) longest D b, two-pow-succ D);
+        evaluated = omega (arith, r .evaluated-is, cells-read, box-count-leaves (settled (leaf d)) longest D b);
+        evaluated-most = omega (arith, r .evaluated-is, box-count-leaves (settled (leaf d)) longest D b, leaves-le (settled (leaf d)) longest D b, two-pow-succ D);
         evaluated-tree = r .evaluated-is;
         first = r .first-is;
         ends = r .ends (omega (arith, cells-many, leaves-least (settled (leaf d)) longest D b));

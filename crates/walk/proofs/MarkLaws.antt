@@ -8,13 +8,13 @@ use Rattle.gyroid.specs.declared.State.{State}
 use Rattle.gyroid.specs.Residual.{stateNumber}
 use Rattle.tree.specs.declared.Axis.{Axis}
 use Rattle.tree.specs.Box.{Box, longest, lower, upper}
-use Rattle.tree.specs.Tree.{Cell, cells, leaves, boxesOf}
+use Rattle.tree.specs.Tree.{Cell, cells, leaves, cellBoxes}
 use Rattle.tree.proofs.CountLaws.{length-cells}
-use Rattle.tree.proofs.CoverLaws.{boxes-none, boxes-more}
+use Rattle.tree.proofs.CoverLaws.{cell-boxes-none, cell-boxes-more}
 use Rattle.tree.specs.Cells.{All}
 use Rattle.table.specs.Table.{Mark}
 use Rattle.walk.specs.Walk.{settled, markOf, marksOf}
-use Rattle.walk.specs.Demand.{Every, Pairwise, boxesIn}
+use Rattle.walk.specs.Demand.{Every, Pairwise, markBoxes}
 use Rattle.walk.proofs.StepLaws.{AtCell, AtHalves}
 
 module _ (g : Gyroid) where
@@ -32,10 +32,10 @@ module _ (g : Gyroid) where
   unfolding marksOf
   marks-one c = refl
 
-  pub boxes-marks : (cs : List Cell) → boxesIn (marksOf g cs) ≡ boxesOf cs
-  unfolding marksOf boxesIn
-  boxes-marks [] = sym boxes-none
-  boxes-marks (c ∷ cs) = ap (λ (l : List Box). c .box ∷ l) (boxes-marks cs) ∙ sym (boxes-more c cs)
+  pub mark-boxes-are : (cs : List Cell) → markBoxes (marksOf g cs) ≡ cellBoxes cs
+  unfolding marksOf markBoxes
+  mark-boxes-are [] = sym cell-boxes-none
+  mark-boxes-are (c ∷ cs) = ap (λ (l : List Box). c .box ∷ l) (mark-boxes-are cs) ∙ sym (cell-boxes-more c cs)
 
   -- what follows for a mark from what every cell of the tree has
   pub every : (P : Mark → Type 0) (Q : Cell → Type 0) → ((c : Cell) → Q c → P (markOf g c)) → (cs : List Cell) → All Q cs → Every P (marksOf g cs)

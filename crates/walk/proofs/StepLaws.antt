@@ -9,7 +9,7 @@ use Rattle.gyroid.specs.declared.Gyroid.{Gyroid}
 use Rattle.gyroid.specs.declared.State.{State}
 use Rattle.tree.specs.declared.Axis.{Axis}
 use Rattle.tree.specs.Box.{Box, Good, span, longest, oneCube, lower, upper}
-use Rattle.tree.specs.Tree.{Cell, stops, cells, leaves, boxes}
+use Rattle.tree.specs.Tree.{Cell, stops, cells, leaves, boxCount}
 use Rattle.tree.proofs.StepLaws.{IsCell, cell-deep, cell-stops, wide, halved}
 use Rattle.tree.proofs.LongestLaws.{fair-longest}
 use Rattle.walk.specs.declared.Step.{Step}
@@ -56,7 +56,7 @@ module _ (g : Gyroid) where
     pub left : 0 < d
     pub two : 2 ≤ span a b
     pub leaves2 : {l h : Box} → l ≡ lower a b → h ≡ upper a b → leaves (settled g) longest d b ≡ leaves (settled g) longest (d - 1) l + leaves (settled g) longest (d - 1) h
-    pub boxes2 : {l h : Box} → l ≡ lower a b → h ≡ upper a b → boxes (settled g) longest d b ≡ 1 + boxes (settled g) longest (d - 1) l + boxes (settled g) longest (d - 1) h
+    pub box-count2 : {l h : Box} → l ≡ lower a b → h ≡ upper a b → boxCount (settled g) longest d b ≡ 1 + boxCount (settled g) longest (d - 1) l + boxCount (settled g) longest (d - 1) h
     pub cells2 : (k : ℕ) {l h : Box} → l ≡ lower a b → h ≡ upper a b
         → cells (settled g) longest d k b ≡ cells (settled g) longest (d - 1) (suc k) l ++ cells (settled g) longest (d - 1) (suc k) h
 
@@ -71,7 +71,7 @@ module _ (g : Gyroid) where
         left = p;
         two = wide (settled g) longest fair-longest b e good;
         leaves2 = λ u v. h .leaves2 ∙ (λ i. leaves (settled g) longest (d - 1) (sym u i) + leaves (settled g) longest (d - 1) (sym v i));
-        boxes2 = λ u v. h .boxes2 ∙ (λ i. 1 + boxes (settled g) longest (d - 1) (sym u i) + boxes (settled g) longest (d - 1) (sym v i));
+        box-count2 = λ u v. h .box-count2 ∙ (λ i. 1 + boxCount (settled g) longest (d - 1) (sym u i) + boxCount (settled g) longest (d - 1) (sym v i));
         cells2 = λ k u v. h .cells2 k ∙ (λ i. cells (settled g) longest (d - 1) (suc k) (sym u i) ++ cells (settled g) longest (d - 1) (suc k) (sym v i));
       }
 

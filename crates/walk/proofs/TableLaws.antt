@@ -19,7 +19,7 @@ use Rattle.gyroid.specs.Leaf.{leaf}
 use Rattle.gyroid.specs.Residual.{stateNumber}
 use Rattle.tree.specs.Box.{Box, Good, boxFrom, longest}
 use Rattle.tree.proofs.VolumeLaws.{volume-small}
-use Rattle.tree.proofs.CountLaws.{boxes-small}
+use Rattle.tree.proofs.CountLaws.{box-count-small}
 use Rattle.table.specs.Table.{Mark}
 use Rattle.table.specs.Told.{Told}
 use Rattle.walk.specs.Walk.{stateAt, settled, cellsOf, evaluatedOf, solidOf, openOf, marksOf, tableOf, entryRefusal, roomRefusal, roomTable, walkNumber, walkTable}
@@ -77,7 +77,7 @@ module _ (d : Description) (lo hi : List ℤ) (D : ℤ) (t : List ℕ) where
       record {
         told = subst⁻¹ (λ (u : List ℕ). Told u (evaluatedOf (leaf d) depth b) (solidOf (leaf d) depth b) (openOf (leaf d) depth b) ms) (table-is e r) (read d accepted depth (h .depth-most) b (h .good) (length t));
         fits = room-left (leaf d) depth b (length t) r;
-        evaluated-small = omega (arith, boxes-small (settled (leaf d)) longest depth b (h .depth-most));
+        evaluated-small = omega (arith, box-count-small (settled (leaf d)) longest depth b (h .depth-most));
         solid-small = omega (arith, v, solid-most d accepted depth (h .depth-most) b (h .good));
         open-small = omega (arith, v);
         marks = every (leaf d) InTree _ (λ c m. record { state = number-most (stateAt (leaf d) (c .box)); good = m .good }) (cellsOf (leaf d) depth b) (each d accepted depth (h .depth-most) b (h .good));

@@ -37,9 +37,10 @@ Pairwise P [] (c ∷ cs) = ⊥
 Pairwise P (m ∷ ms) [] = ⊥
 Pairwise P (m ∷ ms) (c ∷ cs) = P m c × Pairwise P ms cs
 
-unfoldable pub boxesIn : List Mark → List Box
-boxesIn [] = []
-boxesIn (m ∷ ms) = m .box ∷ boxesIn ms
+-- the boxes of the table's cells
+unfoldable pub markBoxes : List Mark → List Box
+markBoxes [] = []
+markBoxes (m ∷ ms) = m .box ∷ markBoxes ms
 
 -- what is supposed of a description, of the lows and highs of a box, of a depth and of the length of a table
 pub record Supposed (d : Description) (lo hi : List ℤ) (D : ℤ) (len : ℕ) : Type 0 where
@@ -72,9 +73,9 @@ module _ (d : Description) where
   -- of the box b, the depth D and the bytes t
   pub record Demand (b : Box) (D : ℕ) (t : List ℕ) : Type 0 where
     -- "Each tick cube of the box is in exactly one cell,
-    pub one-cell : (x y z : ℤ) → holdsCube x y z b ≡ true → holders x y z (boxesIn (marksIn t)) ≡ 1
+    pub one-cell : (x y z : ℤ) → holdsCube x y z b ≡ true → holders x y z (markBoxes (marksIn t)) ≡ 1
     -- and no cube outside the box is in any."
-    pub no-cell : (x y z : ℤ) → holdsCube x y z b ≡ false → holders x y z (boxesIn (marksIn t)) ≡ 0
+    pub no-cell : (x y z : ℤ) → holdsCube x y z b ≡ false → holders x y z (markBoxes (marksIn t)) ≡ 0
     -- "At every rational point of a cell marked inside, all of the cell's admitted residuals are below zero."
     pub inside : Every (λ m. m .state ≡ 1 → AllBelowZero (m .box)) (marksIn t)
     -- "At every rational point of one marked outside, all are above zero."

@@ -49,7 +49,7 @@ cellsOf g D b = tree.cells (settled g) longest D 0 b
 
 -- "Evaluated is the number of boxes in the tree"
 abbrev pub evaluatedOf : Gyroid → ℕ → Box → ℕ
-evaluatedOf g D b = tree.boxes (settled g) longest D b
+evaluatedOf g D b = tree.boxCount (settled g) longest D b
 
 -- "Solid volume is the tick cubes of inside cells; open volume is the rest of the box."
 abbrev pub solidOf : Gyroid → ℕ → Box → ℕ

@@ -2,7 +2,7 @@
 ghost use mathlib.Core.Path.{_≡_};
 ghost use Prim.Native.Nat.{ℕ, _≤_};
 ghost use Rattle.tree.specs.Box.{boxOf, longest};
-ghost use Rattle.tree.specs.Tree.{leaves, boxes, cells, volumeOf};
+ghost use Rattle.tree.specs.Tree.{leaves, boxCount, cells, volumeOf};
 ghost use Rattle.walk.specs.Walk.{settled, inside};
 ghost use Rattle.walk.specs.Carried.{Stands};
 use crate::Counted;
@@ -16,7 +16,7 @@ pub fn count(g: Gyroid, n: Node, depth: usize) -> Counted
     requires { ⌜ Stands g n ⌝ }
     requires { ⌜ depth ≤ 24 ⌝ }
     ensures { λ r. ⌜ r .cells ≡ leaves (settled g) longest depth (boxOf (n .b)) ⌝ }
-    ensures { λ r. ⌜ r .evaluated ≡ boxes (settled g) longest depth (boxOf (n .b)) ⌝ }
+    ensures { λ r. ⌜ r .evaluated ≡ boxCount (settled g) longest depth (boxOf (n .b)) ⌝ }
     ensures { λ r. ⌜ ((k : ℕ) → r .solid ≡ volumeOf (inside g) (cells (settled g) longest depth k (boxOf (n .b)))) ⌝ }
 {
     match n.look(depth) {

@@ -7,8 +7,8 @@ use mir.Syntax.{w64}
 use mir.Val.{toZ}
 use mir.ValLaws.{toZ-pos}
 use Rattle.exact.proofs.Signed.{Is, is, got, fits, bit, sub}
-use Rattle.table.specs.Read.{signed}
-use Rattle.table.proofs.Words.{signed-low, signed-high}
+use Rattle.table.specs.Read.{twosComplement}
+use Rattle.table.proofs.Words.{twos-complement-low, twos-complement-high}
 use borrow.Author.Needs.{needs}
 use Rattle.table.proofs.get.i32_at.Statement.{statement}
 use Rattle.table.proofs.get.i32_at.Tie as tie
@@ -29,7 +29,7 @@ cast-result c = search needs
 returns : tie.Need-returns
 returns c =
     let w = c .before .u32-at in
-    toZ-pos w64 (w .result) (omega (arith, w .ensures .1)) ∙ sym (signed-low (w .result) (c .if1 .taken)) ∙ ap signed (w .ensures .0)
+    toZ-pos w64 (w .result) (omega (arith, w .ensures .1)) ∙ sym (twos-complement-low (w .result) (c .if1 .taken)) ∙ ap twosComplement (w .ensures .0)
 
 cast-result-2 : tie.Need-cast-result-2
 cast-result-2 c = search needs
@@ -40,7 +40,7 @@ sub-result c = fits tt (less (c .before .u32-at .result) (c .before .u32-at .ens
 returns-2 : tie.Need-returns-2
 returns-2 c =
     let w = c .before .u32-at in
-    bit tt (less (w .result) (w .ensures .1)) .same ∙ sym (signed-high (w .result) (c .if1 .left) (w .ensures .1)) ∙ ap signed (w .ensures .0)
+    bit tt (less (w .result) (w .ensures .1)) .same ∙ sym (twos-complement-high (w .result) (c .if1 .left) (w .ensures .1)) ∙ ap twosComplement (w .ensures .0)
 
 pub i32-at-spec : {M : Type 1} → statement M
 i32-at-spec =

@@ -5,7 +5,7 @@ use native.Mathlib.Omega.{arith}
 use borrow.Author.Needs.{needs}
 use lib.ListN.{length}
 use Rattle.tree.specs.Box.{boxOf, longest}
-use Rattle.tree.proofs.CountLaws.{leaves-small, boxes-small}
+use Rattle.tree.proofs.CountLaws.{leaves-small, box-count-small}
 use Rattle.tree.proofs.LongestLaws.{fair-longest}
 use Rattle.tree.proofs.SolidLaws.{solid-le}
 use Rattle.walk.specs.Walk.{settled, inside}
@@ -28,7 +28,7 @@ add-if1 c =
     let n = c .before .before .before .before in
     let start = n .before .before .before .before .before in
     let b = boxOf (start .args .b) in
-    omega (arith, n .count .ensures .0, n .count .ensures .1 .0, leaves-small (settled (start .args .g)) longest (start .args .depth) b (start .pre .1), boxes-small (settled (start .args .g)) longest (start .args .depth) b (start .pre .1))
+    omega (arith, n .count .ensures .0, n .count .ensures .1 .0, leaves-small (settled (start .args .g)) longest (start .args .depth) b (start .pre .1), box-count-small (settled (start .args .g)) longest (start .args .depth) b (start .pre .1))
 
 same-length : tie.Need-same-length
 same-length c = search needs

@@ -10,8 +10,8 @@ use Rattle.gyroid.specs.declared.Gyroid.{Gyroid}
 use Rattle.gyroid.specs.declared.State.{State}
 use Rattle.tree.specs.declared.Axis.{Axis}
 use Rattle.tree.specs.Box.{Box, Good, longest, volume, lower, upper, boxOf}
-use Rattle.tree.specs.Tree.{leaves, boxes, cells, volumeOf}
-use Rattle.tree.proofs.CountLaws.{leaves-small, boxes-small}
+use Rattle.tree.specs.Tree.{leaves, boxCount, cells, volumeOf}
+use Rattle.tree.proofs.CountLaws.{leaves-small, box-count-small}
 use Rattle.tree.proofs.LongestLaws.{fair-longest}
 use Rattle.tree.proofs.VolumeLaws.{volume-small}
 use Rattle.tree.proofs.SolidLaws.{solid-append, solid-cell, solid-le}
@@ -66,7 +66,7 @@ module _ (g : Gyroid) where
   -- the counts l and h of the halves of a box
   record Summed (d : ℕ) (b : Box) (l h : Counted) : Type 0 where
     pub leaves-sum : l .cells + h .cells ≡ leaves (settled g) longest d b
-    pub boxes-sum : 1 + l .evaluated + h .evaluated ≡ boxes (settled g) longest d b
+    pub box-count-sum : 1 + l .evaluated + h .evaluated ≡ boxCount (settled g) longest d b
     pub solid-sum : (k : ℕ) → l .solid + h .solid ≡ solid d k b
 
   -- the solid volume of a cell, and of two halves
@@ -135,7 +135,7 @@ summed t c =
     let high-is = ap boxOf (upper .beside2 .ensures .0) ∙ upper .before .upper .ensures in
     record {
       leaves-sum = omega (arith, h .leaves2 low-is high-is, first .ensures .0, c .count2 .ensures .0);
-      boxes-sum = omega (arith, h .boxes2 low-is high-is, first .ensures .1 .0, c .count2 .ensures .1 .0);
+      box-count-sum = omega (arith, h .box-count2 low-is high-is, first .ensures .1 .0, c .count2 .ensures .1 .0);
       solid-sum = λ k. solid-halves (s .args .g) (s .args .depth) k (whole t s) _ _ _ h low-is high-is
           (first .ensures .1 .1 (suc k)) (c .count2 .ensures .1 .1 (suc k));
     }
@@ -194,10 +194,10 @@ count-count-requires-2 t c κs =
     (omega (arith, p .0, halved t k .left), (c .beside2 .ensures .1, omega (arith, p .1 .1)))
 
 -- ---- no sum outgrows its word: the cells', the two of the boxes', the solid volumes'
-boxes-fit : (t : ℕ) (c : BothCounted t) → 1 + c .before .before .before .count .result .evaluated + c .count2 .result .evaluated ≤ 33554431
-boxes-fit t c =
+box-count-fits : (t : ℕ) (c : BothCounted t) → 1 + c .before .before .before .count .result .evaluated + c .count2 .result .evaluated ≤ 33554431
+box-count-fits t c =
     let s = of-both t c in
-    omega (arith, boxes-small (settled (s .args .g)) longest (s .args .depth) (whole t s) (s .pre .1 .1), summed t c .boxes-sum)
+    omega (arith, box-count-small (settled (s .args .g)) longest (s .args .depth) (whole t s) (s .pre .1 .1), summed t c .box-count-sum)
 
 count-add-t15 : (t : ℕ) → count-lts.Need-add-t15 (claims t) (count-at t) count.Post
 count-add-t15 t c =
@@ -206,10 +206,10 @@ count-add-t15 t c =
     omega (arith, leaves-small (settled (s .args .g)) longest (s .args .depth) (whole t s) (s .pre .1 .1), summed t both .leaves-sum)
 
 count-add-t16 : (t : ℕ) → count-lts.Need-add-t16 (claims t) (count-at t) count.Post
-count-add-t16 t c = omega (arith, boxes-fit t (c .before .before .before))
+count-add-t16 t c = omega (arith, box-count-fits t (c .before .before .before))
 
 count-add-t17 : (t : ℕ) → count-lts.Need-add-t17 (claims t) (count-at t) count.Post
-count-add-t17 t c = omega (arith, boxes-fit t (c .before .before .before .before))
+count-add-t17 t c = omega (arith, box-count-fits t (c .before .before .before .before))
 
 count-add-t18 : (t : ℕ) → count-lts.Need-add-t18 (claims t) (count-at t) count.Post
 count-add-t18 t c =
@@ -223,12 +223,12 @@ count-returns t c =
     let k = c .before .before in
     let s = of-cell t k in
     let at = cell t k in
-    (sym (at .tree .leaves1), (sym (at .tree .boxes1), λ i. solid-is (s .args .g) (s .args .depth) i (whole t s) _ at (c .solid .ensures)))
+    (sym (at .tree .leaves1), (sym (at .tree .box-count1), λ i. solid-is (s .args .g) (s .args .depth) i (whole t s) _ at (c .solid .ensures)))
 
 count-returns-2 : (t : ℕ) → count-lts.Need-returns-2 (claims t) (count-at t) count.Post
 count-returns-2 t c =
     let sums = summed t (c .before .before .before .before .before .before) in
-    (sums .leaves-sum, (sums .boxes-sum, sums .solid-sum))
+    (sums .leaves-sum, (sums .box-count-sum, sums .solid-sum))
 
 pub +count-spec : {M : Type 1} → statement M
 +count-spec = close μ-count λ t. count-lts.spec (claims t)

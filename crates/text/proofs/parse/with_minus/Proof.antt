@@ -1,4 +1,4 @@
--- `text::parse::signed` meets its contract: a number of at most seven digits, and its negative, fit. Assumes nothing.
+-- `text::parse::with_minus` meets its contract: a number of at most seven digits, and its negative, fit. Assumes nothing.
 use mathlib.Core.Path.{_∙_}
 use Prim.Native.Nat.{ℕ, _<_}
 use native.Mathlib.Omega.{arith}
@@ -9,8 +9,8 @@ use mir.Val.{toZ}
 use mir.ValLaws.{toZ-pos}
 use Rattle.exact.proofs.Signed.{Is, is, got, bit, sub, fits}
 use Rattle.exact.proofs.Size.{within-zero}
-use Rattle.text.proofs.parse.signed.Statement.{statement}
-use Rattle.text.proofs.parse.signed.Tie as tie
+use Rattle.text.proofs.parse.with_minus.Statement.{statement}
+use Rattle.text.proofs.parse.with_minus.Tie as tie
 
 own : (v : ℕ) → v < 10000000 → Is 10000000 (toZ w64 v) (pos v)
 own v h = got (toZ-pos w64 v (omega arith)) (record { abs = omega arith })
@@ -33,5 +33,5 @@ cast-result-2 c = search needs
 returns-2 : tie.Need-returns-2
 returns-2 c = rw (c .if1 .left) (own (c .before .args .value) (c .before .pre) .same)
 
-pub signed-spec : {M : Type 1} → statement M
-signed-spec = tie.close (tie.spec cast-result sub-result returns cast-result-2 returns-2)
+pub with-minus-spec : {M : Type 1} → statement M
+with-minus-spec = tie.close (tie.spec cast-result sub-result returns cast-result-2 returns-2)
