@@ -7,7 +7,8 @@ use native.Mathlib.Omega.{arith}
 use lib.ListN.{length, take, drop, set, length-append}
 use lib.Seq.{sets, sets-eq, length-sets, length-take-le, take-at, drop-at}
 use Rattle.table.proofs.Stores.{sets-append, sets-then}
-use Rattle.text.specs.Appended.{Appended, Front}
+use Rattle.text.specs.Listing.{Front}
+use Rattle.text.specs.Appended.{Appended}
 
 pub byte-appended : (l : List ℕ) (at b : ℕ) → Appended l at (b ∷ []) (set l at b) (at + 1)
 byte-appended l at b = record { written = refl; next-is = refl }

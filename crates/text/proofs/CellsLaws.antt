@@ -18,8 +18,7 @@ use Rattle.walk.specs.Demand.{Every}
 use Rattle.walk.proofs.TableLaws.{InTree, Tells, tells}
 use Rattle.text.specs.declared.parse.Line.{Line}
 use Rattle.text.specs.Line.{lineOf}
-use Rattle.text.specs.Listing.{refusedText, listing}
-use Rattle.text.specs.Appended.{Front}
+use Rattle.text.specs.Listing.{refusedText, listing, Front}
 use Rattle.text.specs.Bounds.{AllShort}
 use Rattle.text.specs.Cells.{described, lowsIn, highsIn, depthIn, freshTable, numberOf, tableOf, walkedText, cellsText}
 use Rattle.text.proofs.FitLaws.{good-short, listing-fits}

@@ -2,8 +2,8 @@
 -- nothing.
 use mathlib.Core.Path.{_≡_}
 use mathlib.Core.List.{List}
-use Prim.Native.Nat.{ℕ, _+_, _*_, _≤_}
-use lib.ListN.{length, take}
+use Prim.Native.Nat.{ℕ, _+_, _*_}
+use lib.ListN.{length}
 use lib.Seq.{sets}
 use Rattle.table.specs.Read.{i32At}
 use Rattle.text.specs.Listing.{cornerText}
@@ -17,7 +17,3 @@ pub record Appended (before : List ℕ) (at : ℕ) (text after : List ℕ) (next
 abbrev pub cornerAt : List ℕ → ℕ → ℕ → List ℕ
 cornerAt t slot place =
     cornerText (i32At t (32 * slot + place)) (i32At t (32 * slot + (place + 4))) (i32At t (32 * slot + (place + 8)))
-
--- so many bytes at the front of a buffer. The second part follows from the first; a caller's `&out[..r]` asks for both
-abbrev pub Front : ℕ → List ℕ → Type 0
-Front r out = (r ≤ length out) × (r ≡ length (take r out))

@@ -1,8 +1,10 @@
 -- THE TEXT THAT PROGRAM `cells` PRINTS, document 01's words in quotes: it "prints cells, evaluated, solid, open, then state, lows, highs for
 -- each cell, or `refused N`. Single spaces stand between numbers and a newline ends every line." Definitions only; assumes nothing.
+use mathlib.Core.Path.{_≡_}
 use mathlib.Core.List.{List, [], _∷_, _++_}
-use Prim.Native.Nat.{ℕ}
+use Prim.Native.Nat.{ℕ, _≤_}
 use lib.IntN.{ℤ}
+use lib.ListN.{length, take}
 use Rattle.table.specs.Table.{Mark}
 use Rattle.table.specs.Read.{cellsIn, evaluatedIn, solidIn, openIn, marksIn}
 use Rattle.text.specs.Ascii.{ascii, space, newline}
@@ -40,3 +42,7 @@ cellLines (m ∷ ms) = cellLine m ++ cellLines ms
 -- what is printed of a table: its cells in the order of its chain
 unfoldable pub listing : List ℕ → List ℕ
 listing t = headLine (cellsIn t) (evaluatedIn t) (solidIn t) (openIn t) ++ cellLines (marksIn t)
+
+-- so many bytes at the front of a buffer. The second part follows from the first; a caller's `&out[..r]` asks for both
+abbrev pub Front : ℕ → List ℕ → Type 0
+Front r out = (r ≤ length out) × (r ≡ length (take r out))

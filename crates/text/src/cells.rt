@@ -3,7 +3,7 @@ ghost use mathlib.Core.Path.{_≡_};
 ghost use Prim.Native.Nat.{_+_, _≤_};
 ghost use lib.ListN.{length};
 ghost use lib.Seq.{sets};
-ghost use Rattle.text.specs.Appended.{Front};
+ghost use Rattle.text.specs.Listing.{Front};
 ghost use Rattle.text.specs.Cells.{threeFrom, described, numberOf, tableOf, walkedText, cellsText};
 use crate::parse::parse;
 use crate::print::put_listing;

@@ -1,19 +1,21 @@
 -- WHAT DEMAND 3 SUPPOSES is what the refusals of `walk` leave: under it the call returns 0, and where the call returns 0 it holds. Assumes nothing.
-use mathlib.Core.Path.{_≡_, refl, subst, sym}
-use mathlib.Core.Bool.{Bool, true, false, _&&_}
+use mathlib.Core.Path.{_≡_, refl}
+use mathlib.Core.Bool.{not, _&&_}
 use mathlib.Core.List.{List}
-use Prim.Native.Nat.{ℕ, _+_, _*_, _/_, _≤_}
+use Prim.Native.Nat.{ℕ, _+_, _/_, _≤_}
 use native.Mathlib.Omega.{arith}
 use lib.Dec.{T, ltb, nltb→le}
 use lib.IntN.{ℤ, pos, negsuc, natAbs}
 use lib.ListN.{length}
 use lib.Signed.{_≤ℤ_, leZ, ltZ, nonNeg}
+use lib.Ieee.Bits.{is-true}
+use lib.Ieee.Fits.{and-i}
 use borrow.Author.Tests.{le-ltb}
-use Rattle.exact.specs.Within.{Within}
 use Rattle.exact.proofs.IntegerOrder.{zarith}
-use Rattle.exact.proofs.Size.{within-low, within-high}
-use Rattle.grade.specs.Grade.{at, tick, ticks}
-use Rattle.grade.proofs.RefusalLaws.{none-last, neither}
+use Rattle.grade.specs.Grade.{at, ticks}
+use Rattle.grade.specs.Refusals.{refused, _orElse_}
+use Rattle.grade.proofs.Entries.{both}
+use Rattle.grade.proofs.RefusalLaws.{none-first, none-last, kept, neither}
 use Rattle.gyroid.specs.declared.Description.{Description}
 use Rattle.gyroid.specs.Refusals.{refusal}
 use Rattle.gyroid.specs.Leaf.{leaf}
@@ -23,41 +25,24 @@ use Rattle.walk.specs.Walk.{cellsOf, spans, depths, entryRefusal, roomRe
 use Rattle.walk.specs.Demand.{Supposed}
 use Rattle.walk.proofs.CallLaws.{entered}
 
--- ---- tests that are passed
-sure : (b : Bool) → T b → b ≡ true
-sure true t = refl
-sure false t = absurd t
-
-and : (a b : Bool) → T a → T b → T (a && b)
-and true b t u = u
-and false b t u = absurd t
-
-tick-yes : (z : ℤ) → Within 1048576 z → T (tick z)
-tick-yes z h = and (leZ (negsuc 1048575) z) (leZ z (pos 1048576)) (within-low h .le) (within-high h .le)
-
-ticks-yes : (v : List ℤ) → Within 1048576 (at v 0) → Within 1048576 (at v 1) → Within 1048576 (at v 2) → T (ticks v)
-ticks-yes v x y z = and (tick (at v 0) && tick (at v 1)) (tick (at v 2)) (and (tick (at v 0)) (tick (at v 1)) (tick-yes (at v 0) x) (tick-yes (at v 1) y)) (tick-yes (at v 2) z)
-
 module _ (d : Description) (lo hi : List ℤ) (D : ℤ) (len : ℕ) where
   -- ---- no refusal before 13, nor 13
   module _ (s : Supposed d lo hi D len) where
     limits-pass : T (ticks lo && ticks hi)
-    limits-pass =
-        let l = s .limits .lows in
-        let h = s .limits .highs in
-        and (ticks lo) (ticks hi) (ticks-yes lo (l X) (l Y) (l Z)) (ticks-yes hi (h X) (h Y) (h Z))
+    limits-pass = and-i (ticks lo) (ticks hi) (s .lows) (s .highs)
 
     spans-pass : T (spans lo hi)
     spans-pass =
-        and (ltZ (at lo 0) (at hi 0) && ltZ (at lo 1) (at hi 1)) (ltZ (at lo 2) (at hi 2))
-        (and (ltZ (at lo 0) (at hi 0)) (ltZ (at lo 1) (at hi 1)) (s .spans X .lt) (s .spans Y .lt)) (s .spans Z .lt)
+        and-i (ltZ (at lo 0) (at hi 0) && ltZ (at lo 1) (at hi 1)) (ltZ (at lo 2) (at hi 2))
+        (and-i (ltZ (at lo 0) (at hi 0)) (ltZ (at lo 1) (at hi 1)) (s .spans X .lt) (s .spans Y .lt)) (s .spans Z .lt)
 
     depths-pass : T (depths D)
-    depths-pass = and (leZ (pos 0) D) (leZ D (pos 24)) (s .depth-least .le) (s .depth-most .le)
+    depths-pass = and-i (leZ (pos 0) D) (leZ D (pos 24)) (s .depth-least .le) (s .depth-most .le)
 
     pub entry-none : entryRefusal (refusal d) lo hi D ≡ 0
     unfolding entryRefusal
-    entry-none = rw (s .accepted .none, sure (ticks lo && ticks hi) limits-pass, sure (spans lo hi) spans-pass, sure (depths D) depths-pass) refl
+    entry-none =
+        rw (s .accepted, is-true (ticks lo && ticks hi) limits-pass, is-true (spans lo hi) spans-pass, is-true (depths D) depths-pass) refl
 
     pub room-none : roomRefusal (leaf d) (natAbs D) (boxFrom lo hi) len ≡ 0
     unfolding roomRefusal
@@ -70,15 +55,18 @@ module _ (d : Description) (lo hi : List ℤ) (D : ℤ) (len : ℕ) where
 
   -- ---- and back
   pub none-supposed : walkNumber d lo hi D len ≡ 0 → Supposed d lo hi D len
-  unfolding walkNumber roomRefusal
+  unfolding walkNumber roomRefusal entryRefusal
   none-supposed none =
       let cells = length (cellsOf (leaf d) (natAbs D) (boxFrom lo hi)) in
       let (e, r) = neither (entryRefusal (refusal d) lo hi D) (roomRefusal (leaf d) (natAbs D) (boxFrom lo hi) len) none in
       let h = entered (refusal d) lo hi D e in
+      let (t, _) = none-first (not (ticks lo && ticks hi)) 0 (refusal d orElse refused (not (spans lo hi)) 11 orElse refused (not (depths D)) 12) e in
+      let (low, high) = both (ticks lo) (ticks hi) (kept (ticks lo && ticks hi) t) in
       let room = nltb→le (len / 32) (cells + 1) (none-last (ltb (len / 32) (cells + 1)) 12 r) in
       record {
-        accepted = record { none = h .described };
-        limits = h .box;
+        accepted = h .described;
+        lows = low;
+        highs = high;
         spans = h .good .spans;
         depth-least = least D (h .depth-sign);
         depth-most = most D (h .depth-most);

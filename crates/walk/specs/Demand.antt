@@ -1,25 +1,25 @@
--- DEMAND 3 of the table that the walk leaves: what it supposes and what it says, a field for each part of its sentences, which stand in quotes. "Demand 3 reads the cells, their states
--- and slot 0's numbers of cells and evaluated from the table's bytes after the walk. The rest comes from description, box and D alone."
--- Coordinates are signed ticks and points rational. Definitions only; assumes nothing.
+-- DEMAND 3 of the table that the walk leaves: what it supposes and what it says, a field for each part of its sentences, which stand in
+-- quotes. "Demand 3 reads the cells, their states and slot 0's numbers of cells and evaluated from the table's bytes after the walk. The rest
+-- comes from description, box and D alone." Coordinates are signed ticks and points rational. Definitions only; assumes nothing.
 use mathlib.Core.Path.{_≡_}
 use mathlib.Core.Bool.{true, false}
 use mathlib.Core.List.{List, [], _∷_}
 use mathlib.Core.Logic.{_⊎_}
 use Prim.Native.Nat.{ℕ, suc, _+_, _*_, _^_, _≤_}
+use lib.Dec.{T}
 use lib.IntN.{ℤ, pos, natAbs}
 use lib.ListN.{length}
 use lib.Signed.{_≤ℤ_, _<ℤ_}
 use Rattle.exact.specs.Fraction.{zeroF, _<F_}
-use Rattle.grade.specs.Grade.{Point}
+use Rattle.grade.specs.Grade.{Point, ticks}
 use Rattle.grade.specs.Holds.{InBox}
 use Rattle.gyroid.specs.declared.Description.{Description}
 use Rattle.gyroid.specs.declared.State.the-variants.{Unsettled}
-use Rattle.gyroid.specs.Fits.{Accepted}
+use Rattle.gyroid.specs.Refusals.{refusal}
 use Rattle.gyroid.specs.Leaf.{leaf}
 use Rattle.gyroid.specs.Admitted.{Chosen, admitted}
 use Rattle.tree.specs.declared.Axis.{Axis}
 use Rattle.tree.specs.Box.{Box, boxFrom, low, high, lows, highs, oneCube, volume, holdsCube, holders}
-use Rattle.tree.specs.InTicks.{InTicks}
 use Rattle.tree.specs.Tree.{Cell}
 use Rattle.table.specs.Table.{Mark}
 use Rattle.table.specs.Read.{firstIn, cellsIn, evaluatedIn, solidIn, openIn, marksIn, chainEnd}
@@ -45,9 +45,10 @@ markBoxes (m ∷ ms) = m .box ∷ markBoxes ms
 -- what is supposed of a description, of the lows and highs of a box, of a depth and of the length of a table
 pub record Supposed (d : Description) (lo hi : List ℤ) (D : ℤ) (len : ℕ) : Type 0 where
   -- "Let a description be accepted,
-  pub accepted : Accepted d
+  pub accepted : refusal d ≡ 0
   -- a box of whole ticks keep document 01's limits
-  pub limits : InTicks (boxFrom lo hi)
+  pub lows : T (ticks lo)
+  pub highs : T (ticks hi)
   -- with every span at least 1,
   pub spans : (a : Axis) → low a (boxFrom lo hi) <ℤ high a (boxFrom lo hi)
   -- and the depth D be 0
