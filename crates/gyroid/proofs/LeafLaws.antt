@@ -12,7 +12,8 @@ use Rattle.gyroid.specs.declared.Description.{Description}
 use Rattle.gyroid.specs.declared.Compiled.{Compiled}
 use Rattle.gyroid.specs.declared.Gyroid.{Gyroid}
 use Rattle.gyroid.specs.Refusals.{refusal}
-use Rattle.gyroid.specs.Leaf.{leaf, certified}
+use Rattle.gyroid.specs.Leaf.{leaf}
+use Rattle.gyroid.specs.Constructors.{certified}
 use Rattle.gyroid.proofs.AcceptedLaws.{Passed}
 
 -- ---- what `certified` gave

@@ -1,10 +1,6 @@
 -- The leaf that an accepted description compiles to. Lengths are in millimetres, levels plain. Definitions only; assumes nothing.
-use mathlib.Core.List.{List, [], _∷_}
-use mathlib.Core.Bool.{cond}
-use lib.Dec.{eqb}
 use lib.IntN.{ℤ, pos, natAbs, _+ℤ_, _*ℤ_}
 use Rattle.interval.specs.declared.Interval.{Interval}
-use Rattle.interval.specs.Step.{b64}
 use Rattle.interval.specs.Interval.{twoPi, product, square}
 use Rattle.interval.specs.Nearest.{nearest, fromRational}
 use Rattle.interval.specs.Series.{sineTerm, cosineTerm, nine, tailUp}
@@ -12,14 +8,12 @@ use Rattle.grade.specs.declared.Linear.{Linear}
 use Rattle.grade.specs.declared.LevelKind.{LevelKind}
 use Rattle.grade.specs.declared.GradeDef.{GradeDef}
 use Rattle.grade.specs.declared.Slope.{Slope}
-use Rattle.grade.specs.Exact.{constantDef, compiled}
+use Rattle.grade.specs.Exact.{compiled}
 use Rattle.grade.specs.Certified.{slopeBound}
-use Rattle.grade.specs.Intervals.{zero, unit, gradeIntervals}
+use Rattle.grade.specs.Intervals.{unit, gradeIntervals}
 use Rattle.grade.specs.Fast.{near}
 use Rattle.gyroid.specs.declared.Description.{Description}
 use Rattle.gyroid.specs.declared.Gyroid.{Gyroid}
-use Rattle.gyroid.specs.declared.Compiled.{Compiled}
-use Rattle.gyroid.specs.Refusals.{refusal, unsupported}
 
 -- the level of a constant; a ramp has 0 here, which nothing reads
 abbrev pub levelBy : LevelKind → Linear → ℤ
@@ -65,33 +59,3 @@ leaf d = record {
   grade = compiled (d .level);
   intervals = gradeIntervals (compiled (d .level));
 }
-
--- ---- the constructors. Of a refused description the leaf is all zero, its grade the constant 0
-abbrev zeros9 : List Interval
-zeros9 = zero ∷ zero ∷ zero ∷ zero ∷ zero ∷ zero ∷ zero ∷ zero ∷ zero ∷ []
-
-unfoldable pub noLeaf : Gyroid
-noLeaf = record {
-  turns = zero;
-  «two_pi» = zero;
-  wave = zero;
-  «wave_squared» = zero;
-  «interval_level» = zero;
-  sine = zeros9;
-  cosine = zeros9;
-  «tail_sine» = b64 0;
-  «tail_cosine» = b64 0;
-  lipschitz = zero;
-  «fast_turns» = b64 0;
-  «fast_level» = b64 0;
-  «fast_lipschitz» = b64 0;
-  grade = constantDef (pos 0);
-  intervals = gradeIntervals (constantDef (pos 0));
-}
-
--- "`Gyroid::certified` is the reference"
-unfoldable pub certified : Description → Compiled
-certified d = record { refusal = refusal d; leaf = cond (eqb (refusal d) 0) (leaf d) noLeaf }
-
-unfoldable pub new : Description → Compiled
-new d = record { refusal = unsupported (certified d .refusal); leaf = certified d .leaf }

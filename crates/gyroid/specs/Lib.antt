@@ -9,5 +9,6 @@ pub mod Jet
 pub mod Residual
 pub mod Parts
 pub mod Admitted
--- what the layer's functions ask of their arguments
+-- what the layer's functions ask of their arguments, and the constructors
 pub mod Fits
+pub mod Constructors

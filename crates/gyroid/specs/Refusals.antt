@@ -1,9 +1,8 @@
 -- Refusals of a description by document 01's numbers, in the table's order: the first that fails wins. And which doubles are not infinite.
 -- Definitions only; assumes nothing.
-use mathlib.Core.Bool.{Bool, cond, not, _&&_, _||_}
+use mathlib.Core.Bool.{Bool, not, _&&_}
 use mathlib.Core.List.{List}
 use Prim.Native.Nat.{ℕ}
-use lib.Dec.{eqb}
 use lib.IntN.{pos}
 use lib.Signed.{leZ}
 use lib.Ieee.{Float, neg, le}
@@ -29,10 +28,6 @@ refusal d =
     refused (isDistance (d .level)) 3 orElse
     certification (compiled (d .level)) orElse
     refused (not (partFrame (d .frame))) 3
-
--- "the wrapper `new` turns 4 and 5 into 3"
-abbrev pub unsupported : ℕ → ℕ
-unsupported n = cond (eqb n 4 || eqb n 5) 3 n
 
 -- ---- a box of doubles is three intervals
 -- of size at most x, both ends

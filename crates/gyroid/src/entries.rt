@@ -1,7 +1,8 @@
 // A description's entries: their limits, the part frame, and the refusals in the order of document 01's table.
 ghost use mathlib.Core.Path.{_≡_};
 ghost use Rattle.gyroid.specs.Description.{frameInLimits, inLimits, partFrame};
-ghost use Rattle.gyroid.specs.Refusals.{refusal, unsupported};
+ghost use Rattle.gyroid.specs.Refusals.{refusal};
+ghost use Rattle.gyroid.specs.Constructors.{unsupported};
 use crate::Description;
 use crate::Frame;
 use grade::GradeDef;

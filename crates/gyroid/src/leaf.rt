@@ -2,7 +2,8 @@
 ghost use mathlib.Core.Path.{_≡_};
 ghost use Rattle.exact.specs.Within.{Within};
 ghost use Rattle.grade.specs.Fits.{DefFits, SlopeFits};
-ghost use Rattle.gyroid.specs.Leaf.{constantLevel, lipschitzTop, lipschitzBottom, leaf, noLeaf, certified, new};
+ghost use Rattle.gyroid.specs.Leaf.{constantLevel, lipschitzTop, lipschitzBottom, leaf};
+ghost use Rattle.gyroid.specs.Constructors.{noLeaf, certified, new};
 ghost use Rattle.gyroid.specs.Fits.{Accepted};
 use crate::Compiled;
 use crate::Description;

@@ -2,7 +2,7 @@
 use mathlib.Core.Path.{sym, _∙_}
 use borrow.Author.Tests.{ne-eqb}
 use borrow.Author.Needs.{needs}
-use Rattle.gyroid.specs.Leaf.{certified}
+use Rattle.gyroid.specs.Constructors.{certified}
 use Rattle.gyroid.proofs.Gyroid.certified.Statement.{statement}
 use Rattle.gyroid.proofs.Gyroid.certified.Tie as tie
 

@@ -1,6 +1,6 @@
 -- By the definition, from the calls. Assumes nothing.
 use borrow.Author.Needs.{needs}
-use Rattle.gyroid.specs.Leaf.{new}
+use Rattle.gyroid.specs.Constructors.{new}
 use Rattle.gyroid.proofs.Gyroid.new.Statement.{statement}
 use Rattle.gyroid.proofs.Gyroid.new.Tie as tie
 

@@ -4,7 +4,7 @@ use borrow.Author.Needs.{needs}
 use Rattle.exact.proofs.Size.{within-zero}
 use Rattle.grade.specs.Fits.{DefFits}
 use Rattle.grade.proofs.Accepted.{constant-fits}
-use Rattle.gyroid.specs.Leaf.{noLeaf}
+use Rattle.gyroid.specs.Constructors.{noLeaf}
 use Rattle.gyroid.proofs.Gyroid.none.Statement.{statement}
 use Rattle.gyroid.proofs.Gyroid.none.Tie as tie
 

@@ -15,7 +15,8 @@ use Rattle.gyroid.specs.declared.Compiled.{Compiled}
 use Rattle.gyroid.specs.declared.Description.{Description}
 use Rattle.gyroid.specs.Refusals.{refusal}
 use Rattle.gyroid.specs.Fits.{Accepted}
-use Rattle.gyroid.specs.Leaf.{leaf, certified}
+use Rattle.gyroid.specs.Leaf.{leaf}
+use Rattle.gyroid.specs.Constructors.{certified}
 use Rattle.gyroid.proofs.LeafLaws.{number-is, leaf-is}
 use Rattle.tree.specs.Box.{Box, Good, boxFrom}
 use Rattle.walk.specs.Walk.{entryRefusal, roomRefusal, roomTable}
