@@ -32,7 +32,8 @@ pub struct-none : {A : Type 0} (n : ℕ) (b : Bool) (v xs : List A) → n ≡ 0 
 struct-none n true v xs e h = absurd (bool-apart (sym h))
 struct-none n false v xs e h = nothing xs (answered n []) (ap (λ k. answered k []) e)
 
-pub struct-found : {A : Type 0} (n : ℕ) (b : Bool) (v : A) (vs xs ys : List A) → n ≡ 0 → not b ≡ false → ys ≡ over xs 0 (v ∷ vs) → Left 0 xs ys (answered n (cond b (v ∷ vs) []))
+pub struct-found : {A : Type 0} (n : ℕ) (b : Bool) (v : A) (vs xs ys : List A) → n ≡ 0 → not b ≡ false → ys ≡ over xs 0 (v ∷ vs)
+    → Left 0 xs ys (answered n (cond b (v ∷ vs) []))
 struct-found n true v vs xs ys e h q = values v vs xs ys (answered n (v ∷ vs)) (ap (λ k. answered k (v ∷ vs)) e) q
 struct-found n false v vs xs ys e h q = absurd (bool-apart h)
 

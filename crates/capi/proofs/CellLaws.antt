@@ -24,6 +24,7 @@ good-whole b g = record { x = on X; y = on Y; z = on Z }
     on : (a : Axis) → WholeEnds (low a b) (high a b)
     on a = let t = good-ticks b g in record { low = t .lows a; high = t .highs a; least = <ℤ-le (g .spans a) }
 
-pub box-state-walked : (d : Description) → Accepted d → (b : Box) → Good b → boxStateCall d (tickBox (lows b) (highs b)) ≡ found (stateNumber (stateAt (leaf d) b) ∷ [])
+pub box-state-walked : (d : Description) → Accepted d → (b : Box) → Good b
+    → boxStateCall d (tickBox (lows b) (highs b)) ≡ found (stateNumber (stateAt (leaf d) b) ∷ [])
 unfolding stateAt
 box-state-walked d a b g = box-state-ticks (lows b) (highs b) (good-whole b g) d a

@@ -54,11 +54,13 @@ pub set-small : (xs : List ℤ) (z : ℤ) {w : ℤ} → w ≡ z → SFits w64 z 
 set-small xs z e f = ap (λ w. set xs 0 (toZ w64 (ofZ w64 w))) e ∙ ap (set xs 0) (back f)
 
 -- three whole numbers, written through their bits
-pub set-three : (xs : List ℤ) (a b c : ℤ) → SFits w64 a → SFits w64 b → SFits w64 c → set (set (set xs 0 (toZ w64 (ofZ w64 a))) 1 (toZ w64 (ofZ w64 b))) 2 (toZ w64 (ofZ w64 c)) ≡ over xs 0 (a ∷ b ∷ c ∷ [])
+pub set-three : (xs : List ℤ) (a b c : ℤ) → SFits w64 a → SFits w64 b → SFits w64 c
+    → set (set (set xs 0 (toZ w64 (ofZ w64 a))) 1 (toZ w64 (ofZ w64 b))) 2 (toZ w64 (ofZ w64 c)) ≡ over xs 0 (a ∷ b ∷ c ∷ [])
 set-three xs a b c fa fb fc = λ k. set (set (set xs 0 (back fa k)) 1 (back fb k)) 2 (back fc k)
 
 -- six doubles in a row, their places counted from the first
-pub six : (xs : List Float) (i : ℕ) (a b c d e f : Float) → set (set (set (set (set (set xs i a) (i + 1) b) (i + 2) c) (i + 3) d) (i + 4) e) (i + 5) f ≡ over xs i (a ∷ b ∷ c ∷ d ∷ e ∷ f ∷ [])
+pub six : (xs : List Float) (i : ℕ) (a b c d e f : Float)
+    → set (set (set (set (set (set xs i a) (i + 1) b) (i + 2) c) (i + 3) d) (i + 4) e) (i + 5) f ≡ over xs i (a ∷ b ∷ c ∷ d ∷ e ∷ f ∷ [])
 six xs i a b c d e f = λ k. set (set (set (set (set (set xs i a) (one k) b) (two k) c) (three k) d) (four k) e) (five k) f
   where
     one : i + 1 ≡ suc i

@@ -73,7 +73,8 @@ unfoldable pub gradeRange : List ℤ → List ℤ → ℕ → Said ℤ
 gradeRange ds bounds room = unless (lengths (length ds) (length bounds) 6 room 3) (rangeCall (level ds) (wholePoint bounds 0) (wholePoint bounds 3))
 
 unfoldable pub levelPiece : List ℤ → List ℤ → ℕ → Said ℤ
-levelPiece ds bounds room = unless (lengths (length ds) (length bounds) 6 room 1) (each pos (calls.levelPieceCall (description ds) (wholePoint bounds 0) (wholePoint bounds 3)))
+levelPiece ds bounds room =
+    unless (lengths (length ds) (length bounds) 6 room 1) (each pos (calls.levelPieceCall (description ds) (wholePoint bounds 0) (wholePoint bounds 3)))
 
 -- ---- over a box of doubles: the low end and the high end of each axis
 unfoldable pub jet : List ℤ → List Float → ℕ → Said Float
@@ -88,7 +89,8 @@ piece n = cond (eqb n 0) Start (cond (eqb n 1) Ramp End)
 
 unfoldable pub derivatives : List ℤ → List Float → ℕ → ℕ → Said Float
 derivatives ds world number room =
-    unless (lengths (length ds) (length world) 6 room 24 orElse refused (ltb 2 number) 1) (derivativesSaid (calls.derivativesCall (description ds) (box world 0) (piece number)))
+    unless (lengths (length ds) (length world) 6 room 24 orElse refused (ltb 2 number) 1)
+    (derivativesSaid (calls.derivativesCall (description ds) (box world 0) (piece number)))
 
 unfoldable pub residual : List ℤ → List Float → ℕ → Said Float
 residual ds world room = unless (lengths (length ds) (length world) 6 room 2) (calls.residualCall (description ds) (box world 0))

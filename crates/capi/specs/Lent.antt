@@ -65,7 +65,8 @@ triangle xs = box xs 0 ∷ box xs 6 ∷ box xs 12 ∷ []
 -- ---- what the lengths refuse
 -- 101: an argument that is not of its length, or fewer places than the call has values; then 1: a description of other than 18 entries
 unfoldable pub lengths : ℕ → ℕ → ℕ → ℕ → ℕ → ℕ
-lengths description given wanted room needed = refused (not (eqb given wanted)) 101 orElse refused (ltb room needed) 101 orElse refused (not (eqb description 18)) 1
+lengths description given wanted room needed =
+    refused (not (eqb given wanted)) 101 orElse refused (ltb room needed) 101 orElse refused (not (eqb description 18)) 1
 
 -- a call that the number n refuses before it is made
 abbrev pub unless : {A : Type 0} → ℕ → Said A → Said A

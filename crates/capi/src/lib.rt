@@ -114,7 +114,8 @@ pub extern "C" fn gyroid_lipschitz(description: &[i64], out: &mut [f64]) -> u32
 #[no_mangle]
 pub extern "C" fn gyroid_grade_range(description: &[i64], bounds: &[i64], out: &mut [i64]) -> u32
     ensures answer { λ r. ⌜ r ≡ status (exports.gradeRange (now (description .entry)) (now (bounds .entry)) (length (now (out .entry)))) ⌝ }
-    ensures left { λ _. ⌜ now (out .exit) ≡ written (now (out .entry)) (exports.gradeRange (now (description .entry)) (now (bounds .entry)) (length (now (out .entry)))) ⌝ }
+    ensures left { λ _. ⌜ now (out .exit) ≡ written (now (out .entry))
+        (exports.gradeRange (now (description .entry)) (now (bounds .entry)) (length (now (out .entry)))) ⌝ }
 {
     let number = lengths(description.len(), bounds.len(), 6, out.len(), 3);
     if number != 0 {
@@ -134,7 +135,8 @@ pub extern "C" fn gyroid_grade_range(description: &[i64], bounds: &[i64], out: &
 #[no_mangle]
 pub extern "C" fn gyroid_level_piece(description: &[i64], bounds: &[i64], out: &mut [i64]) -> u32
     ensures answer { λ r. ⌜ r ≡ status (exports.levelPiece (now (description .entry)) (now (bounds .entry)) (length (now (out .entry)))) ⌝ }
-    ensures left { λ _. ⌜ now (out .exit) ≡ written (now (out .entry)) (exports.levelPiece (now (description .entry)) (now (bounds .entry)) (length (now (out .entry)))) ⌝ }
+    ensures left { λ _. ⌜ now (out .exit) ≡ written (now (out .entry))
+        (exports.levelPiece (now (description .entry)) (now (bounds .entry)) (length (now (out .entry)))) ⌝ }
 {
     let number = lengths(description.len(), bounds.len(), 6, out.len(), 1);
     if number != 0 {
@@ -154,7 +156,8 @@ pub extern "C" fn gyroid_level_piece(description: &[i64], bounds: &[i64], out: &
 #[no_mangle]
 pub extern "C" fn gyroid_jet(description: &[i64], world: &[f64], out: &mut [f64]) -> u32
     ensures answer { λ r. ⌜ r ≡ status (exports.jet (now (description .entry)) (now (world .entry)) (length (now (out .entry)))) ⌝ }
-    ensures left { λ _. ⌜ now (out .exit) ≡ written (now (out .entry)) (exports.jet (now (description .entry)) (now (world .entry)) (length (now (out .entry)))) ⌝ }
+    ensures left { λ _. ⌜ now (out .exit) ≡ written (now (out .entry))
+        (exports.jet (now (description .entry)) (now (world .entry)) (length (now (out .entry)))) ⌝ }
 {
     let number = lengths(description.len(), world.len(), 6, out.len(), 8);
     if number != 0 {
@@ -166,7 +169,8 @@ pub extern "C" fn gyroid_jet(description: &[i64], world: &[f64], out: &mut [f64]
 #[no_mangle]
 pub extern "C" fn gyroid_affine_jet(description: &[i64], world: &[f64], out: &mut [f64]) -> u32
     ensures answer { λ r. ⌜ r ≡ status (exports.affineJet (now (description .entry)) (now (world .entry)) (length (now (out .entry)))) ⌝ }
-    ensures left { λ _. ⌜ now (out .exit) ≡ written (now (out .entry)) (exports.affineJet (now (description .entry)) (now (world .entry)) (length (now (out .entry)))) ⌝ }
+    ensures left { λ _. ⌜ now (out .exit) ≡ written (now (out .entry))
+        (exports.affineJet (now (description .entry)) (now (world .entry)) (length (now (out .entry)))) ⌝ }
 {
     let number = lengths(description.len(), world.len(), 6, out.len(), 8);
     if number != 0 {
@@ -184,7 +188,8 @@ pub extern "C" fn gyroid_derivatives(
     out: &mut [f64],
 ) -> u32
     ensures answer { λ r. ⌜ r ≡ status (exports.derivatives (now (description .entry)) (now (world .entry)) piece (length (now (out .entry)))) ⌝ }
-    ensures left { λ _. ⌜ now (out .exit) ≡ written (now (out .entry)) (exports.derivatives (now (description .entry)) (now (world .entry)) piece (length (now (out .entry)))) ⌝ }
+    ensures left { λ _. ⌜ now (out .exit) ≡ written (now (out .entry))
+        (exports.derivatives (now (description .entry)) (now (world .entry)) piece (length (now (out .entry)))) ⌝ }
 {
     let slices = lengths(description.len(), world.len(), 6, out.len(), 24);
     let number = or_else(slices, refused(piece > 2, 1));
@@ -200,7 +205,8 @@ pub extern "C" fn gyroid_derivatives(
 #[no_mangle]
 pub extern "C" fn gyroid_residual(description: &[i64], world: &[f64], out: &mut [f64]) -> u32
     ensures answer { λ r. ⌜ r ≡ status (exports.residual (now (description .entry)) (now (world .entry)) (length (now (out .entry)))) ⌝ }
-    ensures left { λ _. ⌜ now (out .exit) ≡ written (now (out .entry)) (exports.residual (now (description .entry)) (now (world .entry)) (length (now (out .entry)))) ⌝ }
+    ensures left { λ _. ⌜ now (out .exit) ≡ written (now (out .entry))
+        (exports.residual (now (description .entry)) (now (world .entry)) (length (now (out .entry)))) ⌝ }
 {
     let number = lengths(description.len(), world.len(), 6, out.len(), 2);
     if number != 0 {
@@ -212,7 +218,8 @@ pub extern "C" fn gyroid_residual(description: &[i64], world: &[f64], out: &mut 
 #[no_mangle]
 pub extern "C" fn gyroid_affine_residual(description: &[i64], world: &[f64], out: &mut [f64]) -> u32
     ensures answer { λ r. ⌜ r ≡ status (exports.affineResidual (now (description .entry)) (now (world .entry)) (length (now (out .entry)))) ⌝ }
-    ensures left { λ _. ⌜ now (out .exit) ≡ written (now (out .entry)) (exports.affineResidual (now (description .entry)) (now (world .entry)) (length (now (out .entry)))) ⌝ }
+    ensures left { λ _. ⌜ now (out .exit) ≡ written (now (out .entry))
+        (exports.affineResidual (now (description .entry)) (now (world .entry)) (length (now (out .entry)))) ⌝ }
 {
     let number = lengths(description.len(), world.len(), 6, out.len(), 2);
     if number != 0 {
@@ -228,7 +235,8 @@ pub extern "C" fn gyroid_affine_residual(description: &[i64], world: &[f64], out
 #[no_mangle]
 pub extern "C" fn gyroid_box_state(description: &[i64], world: &[f64], out: &mut [i64]) -> u32
     ensures answer { λ r. ⌜ r ≡ status (exports.boxState (now (description .entry)) (now (world .entry)) (length (now (out .entry)))) ⌝ }
-    ensures left { λ _. ⌜ now (out .exit) ≡ written (now (out .entry)) (exports.boxState (now (description .entry)) (now (world .entry)) (length (now (out .entry)))) ⌝ }
+    ensures left { λ _. ⌜ now (out .exit) ≡ written (now (out .entry))
+        (exports.boxState (now (description .entry)) (now (world .entry)) (length (now (out .entry)))) ⌝ }
 {
     let number = lengths(description.len(), world.len(), 6, out.len(), 1);
     if number != 0 {
@@ -244,7 +252,8 @@ pub extern "C" fn gyroid_facet_residual(
     out: &mut [f64],
 ) -> u32
     ensures answer { λ r. ⌜ r ≡ status (exports.facetResidual (now (description .entry)) (now (corners .entry)) (length (now (out .entry)))) ⌝ }
-    ensures left { λ _. ⌜ now (out .exit) ≡ written (now (out .entry)) (exports.facetResidual (now (description .entry)) (now (corners .entry)) (length (now (out .entry)))) ⌝ }
+    ensures left { λ _. ⌜ now (out .exit) ≡ written (now (out .entry))
+        (exports.facetResidual (now (description .entry)) (now (corners .entry)) (length (now (out .entry)))) ⌝ }
 {
     let number = lengths(description.len(), corners.len(), 18, out.len(), 2);
     if number != 0 {
@@ -259,7 +268,8 @@ pub extern "C" fn gyroid_facet_residual(
 #[no_mangle]
 pub extern "C" fn gyroid_fast(description: &[i64], point: &[f64], out: &mut [f64]) -> u32
     ensures answer { λ r. ⌜ r ≡ status (exports.fast (now (description .entry)) (now (point .entry)) (length (now (out .entry)))) ⌝ }
-    ensures left { λ _. ⌜ now (out .exit) ≡ written (now (out .entry)) (exports.fast (now (description .entry)) (now (point .entry)) (length (now (out .entry)))) ⌝ }
+    ensures left { λ _. ⌜ now (out .exit) ≡ written (now (out .entry))
+        (exports.fast (now (description .entry)) (now (point .entry)) (length (now (out .entry)))) ⌝ }
 {
     let number = lengths(description.len(), point.len(), 3, out.len(), 1);
     if number != 0 {
@@ -271,7 +281,8 @@ pub extern "C" fn gyroid_fast(description: &[i64], point: &[f64], out: &mut [f64
 #[no_mangle]
 pub extern "C" fn gyroid_fast_distance(description: &[i64], point: &[f64], out: &mut [f64]) -> u32
     ensures answer { λ r. ⌜ r ≡ status (exports.fastDistance (now (description .entry)) (now (point .entry)) (length (now (out .entry)))) ⌝ }
-    ensures left { λ _. ⌜ now (out .exit) ≡ written (now (out .entry)) (exports.fastDistance (now (description .entry)) (now (point .entry)) (length (now (out .entry)))) ⌝ }
+    ensures left { λ _. ⌜ now (out .exit) ≡ written (now (out .entry))
+        (exports.fastDistance (now (description .entry)) (now (point .entry)) (length (now (out .entry)))) ⌝ }
 {
     let number = lengths(description.len(), point.len(), 3, out.len(), 1);
     if number != 0 {

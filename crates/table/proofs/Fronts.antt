@@ -38,7 +38,8 @@ module _ (cells evaluated solid vacant : ℕ) (r : List ℕ) where
   head-open h = two-words vacant (digits (vacant % 4294967296) (omega arith)) (digits (vacant / 4294967296) (omega arith))
 
 -- ---- a cell at the front
-coordinate : (z : ℤ) {w : ℕ} → FitsI32 z → w ≡ bits z % 256 + bits z / 256 % 256 * 256 + bits z / 65536 % 256 * 65536 + bits z / 16777216 % 256 * 16777216 → twosComplement w ≡ z
+coordinate : (z : ℤ) {w : ℕ} → FitsI32 z → w ≡ bits z % 256 + bits z / 256 % 256 * 256 + bits z / 65536 % 256 * 65536 + bits z / 16777216 % 256 * 16777216
+    → twosComplement w ≡ z
 coordinate z h e = ap twosComplement (e ∙ digits (bits z) (bits-below z h)) ∙ twos-complement-bits z h
 
 module _ (next : ℕ) (m : Mark) (r : List ℕ) where

@@ -43,7 +43,8 @@ chained t rest total slot (m ∷ k ∷ ms) g n h e =
     ∙ drop-at first later 32 (length-cell (nextSlot total slot) m) in
     let others = chained t rest total (suc slot) (k ∷ ms) (g .1) (omega arith) h on in
     record {
-      marks-are = (λ i. mark-at t later slot (nextSlot total slot) m front (g .0) i ∷ chain (length (k ∷ ms)) t (goes i)) ∙ ap (λ (x : List Mark). m ∷ x) (others .marks-are);
+      marks-are = (λ i. mark-at t later slot (nextSlot total slot) m front (g .0) i ∷ chain (length (k ∷ ms)) t (goes i))
+          ∙ ap (λ (x : List Mark). m ∷ x) (others .marks-are);
       ends = λ p. ap (λ (j : ℕ). chainEnd (length (k ∷ ms)) t j) goes ∙ others .ends (omega arith);
     }
 

@@ -12,7 +12,8 @@ use Rattle.table.proofs.Stores.{sets-then}
 use Rattle.table.proofs.Words.{length-word4, length-word8}
 
 -- a u64
-pub word8-stored : (l : List ℕ) (at x : ℕ) {m r : List ℕ} → m ≡ sets l at (word4 (x % 4294967296)) → r ≡ sets m (at + 4) (word4 (x / 4294967296)) → r ≡ sets l at (word8 x)
+pub word8-stored : (l : List ℕ) (at x : ℕ) {m r : List ℕ} → m ≡ sets l at (word4 (x % 4294967296)) → r ≡ sets m (at + 4) (word4 (x / 4294967296))
+    → r ≡ sets l at (word8 x)
 unfolding word8
 word8-stored l at x e f = sets-then l at (word4 (x % 4294967296)) (word4 (x / 4294967296)) e f (simp length-word4)
 
@@ -21,7 +22,8 @@ unfolding word4
 zero-word = refl
 
 -- slot 0
-pub head-stored : (l : List ℕ) (cells evaluated solid vacant : ℕ) {m n o p q r : List ℕ} → m ≡ sets l 0 (word4 1) → n ≡ sets m 4 (word4 cells) → o ≡ sets n 8 (word4 evaluated)
+pub head-stored : (l : List ℕ) (cells evaluated solid vacant : ℕ) {m n o p q r : List ℕ} → m ≡ sets l 0 (word4 1) → n ≡ sets m 4 (word4 cells)
+    → o ≡ sets n 8 (word4 evaluated)
     → p ≡ sets o 12 (word8 solid) → q ≡ sets p 20 (word8 vacant) → r ≡ sets q 28 (word4 0) → r ≡ sets l 0 (headBytes cells evaluated solid vacant)
 unfolding headBytes
 head-stored l cells evaluated solid vacant e f g h i j =

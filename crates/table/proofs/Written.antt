@@ -15,7 +15,13 @@ length-table len evaluated solid vacant ms h =
     let cells : List ℕ = cellsBytes (length ms) 1 ms in
     let zeros : List ℕ = replicate (len - 32 * (length ms + 1)) 0 in
     let more : length zeros ≡ len - 32 * (length ms + 1) = length-replicate (len - 32 * (length ms + 1)) 0 in
-    omega (arith, length-append (head ++ cells) zeros, length-append head cells, length-head (length ms) evaluated solid vacant, length-cells-bytes (length ms) 1 ms)
+    omega (
+      arith,
+      length-append (head ++ cells) zeros,
+      length-append head cells,
+      length-head (length ms) evaluated solid vacant,
+      length-cells-bytes (length ms) 1 ms,
+    )
 
 abbrev zeros : ℕ → List ℕ
 zeros n = replicate n 0
@@ -26,7 +32,8 @@ zeros-drop k n h =
     ap (λ (l : List ℕ). drop k l) (ap (λ (x : ℕ). replicate x 0) (sym e) ∙ sym (replicate-append-replicate k (n - k) 0))
     ∙ drop-at (zeros k) (zeros (n - k)) k (length-replicate k 0)
 
-pub written : (len total evaluated solid vacant : ℕ) (ms : List Mark) {z h r : List ℕ} → z ≡ replicate len 0 → h ≡ sets z 0 (headBytes total evaluated solid vacant)
+pub written : (len total evaluated solid vacant : ℕ) (ms : List Mark) {z h r : List ℕ} → z ≡ replicate len 0
+    → h ≡ sets z 0 (headBytes total evaluated solid vacant)
     → r ≡ sets h 32 (cellsBytes total 1 ms) → length ms ≡ total → 32 * (total + 1) ≤ len → r ≡ tableBytes len evaluated solid vacant ms
 unfolding tableBytes
 written len total evaluated solid vacant ms {z} {h} {r} ez eh er n fits =

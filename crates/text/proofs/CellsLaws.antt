@@ -64,7 +64,8 @@ module _ (ns : List ℤ) {t : List ℕ} {n : ℕ} (table : t ≡ freshTable) (nu
     listing-small = omega (arith, ap length listing-is, fits ns (sym same ∙ none))
 
 -- a buffer with a text at its front has any equal text there
-pub printed : (l : List ℕ) {out x y : List ℕ} {r : ℕ} → x ≡ y → (out ≡ sets l 0 x) × ((r ≡ length x) × Front r out) → (out ≡ sets l 0 y) × ((r ≡ length y) × Front r out)
+pub printed : (l : List ℕ) {out x y : List ℕ} {r : ℕ} → x ≡ y → (out ≡ sets l 0 x) × ((r ≡ length x) × Front r out)
+    → (out ≡ sets l 0 y) × ((r ≡ length y) × Front r out)
 printed l e p = (p .0 ∙ ap (sets l 0) e, (p .1 .0 ∙ ap length e, p .1 .1))
 
 pub no-line : (t : List ℕ) {line : Line} → line ≡ lineOf t → line .ok ≡ false → refusedText 14 ≡ cellsText t

@@ -27,7 +27,11 @@ document-line = refl
 
 -- a minus before 0, zeros in front, seven digits
 zeros-and-signs : lineOf (ascii "-0 0001024 -0000000 0 0 0 0 0 -9999999 0 0 0 0 1024 1024 1024 9999999\n")
-    ≡ record { ok = true; numbers = pos 0 ∷ pos 1024 ∷ pos 0 ∷ pos 0 ∷ pos 0 ∷ pos 0 ∷ pos 0 ∷ pos 0 ∷ negsuc 9999998 ∷ numbers (0 ∷ 0 ∷ 0 ∷ 0 ∷ 1024 ∷ 1024 ∷ 1024 ∷ 9999999 ∷ []) }
+    ≡ record {
+      ok = true;
+      numbers = pos 0 ∷ pos 1024 ∷ pos 0 ∷ pos 0 ∷ pos 0 ∷ pos 0 ∷ pos 0 ∷ pos 0 ∷ negsuc 9999998 ∷ numbers
+          (0 ∷ 0 ∷ 0 ∷ 0 ∷ 1024 ∷ 1024 ∷ 1024 ∷ 9999999 ∷ []);
+    }
 unfolding lineOf lineFrom numberAt digitsAt
 zeros-and-signs = refl
 

@@ -83,4 +83,5 @@ pub listing-fits : (t : List ℕ) (evaluated solid vacant : ℕ) (ms : List Mark
     → length (listing t) ≤ 131072
 listing-fits t evaluated solid vacant ms h n e s v short =
     let first = head (length ms) evaluated solid vacant (omega arith) e s v in
-    rw (listing-told t evaluated solid vacant ms h, length-append (headLine (length ms) evaluated solid vacant) (cellLines ms)) (omega (arith, first, lines ms short))
+    rw (listing-told t evaluated solid vacant ms h, length-append (headLine (length ms) evaluated solid vacant) (cellLines ms))
+    (omega (arith, first, lines ms short))

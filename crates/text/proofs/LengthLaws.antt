@@ -55,7 +55,8 @@ number-end t i = go (eqb (byteAt t i) minus)
     go false = some-ends (i + 8) false i (digitsAt 7 0 t i) (omega (arith, digits-end 7 0 t i))
 
 -- ---- the line
-line-step : (len left i : ℕ) (n : Number) (ends : ℕ → Bool) (rest : ℤ → ℕ → Line) → Ends (i + 8) n → ((x : ℤ) (next : ℕ) → rest x next .ok ≡ true → len ≤ next + 1 + 9 * left)
+line-step : (len left i : ℕ) (n : Number) (ends : ℕ → Bool) (rest : ℤ → ℕ → Line) → Ends (i + 8) n
+    → ((x : ℤ) (next : ℕ) → rest x next .ok ≡ true → len ≤ next + 1 + 9 * left)
     → onFound n (λ x next. cond (ends next) (rest x next) refusedLine) .ok ≡ true → len ≤ i + 9 * suc left
 unfolding refusedLine
 line-step len left i Nothing ends rest h f e = absurd (not-true e)
@@ -74,7 +75,8 @@ line-end : (left : ℕ) (ns : List ℤ) (t : List ℕ) (i : ℕ) → lineFrom le
 unfolding lineFrom
 line-end zero ns t i e = omega (arith, line-done i (length t) (eqb i (length t)) (record { ok = true; numbers = ns }) refl e)
 line-end (suc left) ns t i e =
-    line-step (length t) left i (numberAt t i) (λ next. eqb (byteAt t next) (separator left)) (λ x next. lineFrom left (ns ++ (x ∷ [])) t (next + 1)) (number-end t i)
+    line-step (length t) left i (numberAt t i) (λ next. eqb (byteAt t next) (separator left)) (λ x next. lineFrom left (ns ++ (x ∷ [])) t (next + 1))
+    (number-end t i)
     (λ x next. line-end left (ns ++ (x ∷ [])) t (next + 1)) e
 
 pub longest : (t : List ℕ) → lineOf t .ok ≡ true → length t ≤ 153

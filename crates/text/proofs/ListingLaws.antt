@@ -32,7 +32,9 @@ pub length-corner : (x y z : ℤ) → length (cornerText x y z) ≡ length (sign
 length-corner x y z = rw corner-is (simp length-append (omega arith))
 
 pub length-line : (m : Mark)
-    → length (cellLine m) ≡ length (decimal (m .state)) + length (cornerText (m .box .lx) (m .box .ly) (m .box .lz)) + length (cornerText (m .box .hx) (m .box .hy) (m .box .hz)) + 1
+    → length (cellLine m)
+    ≡ length (decimal (m .state)) + length (cornerText (m .box .lx) (m .box .ly) (m .box .lz))
+    + length (cornerText (m .box .hx) (m .box .hy) (m .box .hz)) + 1
 unfolding cellLine
 length-line m = simp length-append (omega arith)
 

@@ -27,7 +27,8 @@ module _ (settled : Box → Bool) (axis : Box → Axis) where
   pub box-count-leaves : (d : ℕ) (b : Box) → boxCount settled axis d b + 1 ≡ 2 * leaves settled axis d b
   unfolding boxCount leaves
   box-count-leaves zero b = refl
-  box-count-leaves (suc d) b = both (stops settled axis b) _ _ _ _ (box-count-leaves d (lowerHalf settled axis b)) (box-count-leaves d (upperHalf settled axis b))
+  box-count-leaves (suc d) b =
+      both (stops settled axis b) _ _ _ _ (box-count-leaves d (lowerHalf settled axis b)) (box-count-leaves d (upperHalf settled axis b))
     where
       both : (t : Bool) (m n p q : ℕ) → m + 1 ≡ 2 * p → n + 1 ≡ 2 * q → cond t 1 (1 + m + n) + 1 ≡ 2 * cond t 1 (p + q)
       both true m n p q e f = refl

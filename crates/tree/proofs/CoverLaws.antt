@@ -63,7 +63,8 @@ above c a b = liesBetween c (middle a b) (high a b)
 
 along-halves : (c : ℤ) (a : Axis) (b : Box) → Good b → one (along c a b) ≡ one (below c a b) + one (above c a b)
 along-halves c a b g =
-    lies-between-halves c (low a b) (middle a b) (high a b) (middle-least (low a b) (high a b) (g .spans a)) (<ℤ-le (middle-below (low a b) (high a b) (g .spans a)))
+    lies-between-halves c (low a b) (middle a b) (high a b) (middle-least (low a b) (high a b) (g .spans a))
+    (<ℤ-le (middle-below (low a b) (high a b) (g .spans a)))
 
 pub holds-halves : (x y z : ℤ) (a : Axis) (b : Box) → Good b → one (holdsCube x y z b) ≡ one (holdsCube x y z (lower a b)) + one (holdsCube x y z (upper a b))
 unfolding holdsCube lower upper
@@ -94,7 +95,8 @@ pub cell-boxes-more : (c : Cell) (cs : List Cell) → cellBoxes (c ∷ cs) ≡ c
 unfolding cellBoxes
 cell-boxes-more c cs = refl
 
-pub cover : (settled : Box → Bool) (axis : Box → Axis) → Fair axis → (x y z : ℤ) (d k : ℕ) (b : Box) → Good b → holders x y z (cellBoxes (cells settled axis d k b)) ≡ cond (holdsCube x y z b) 1 0
+pub cover : (settled : Box → Bool) (axis : Box → Axis) → Fair axis → (x y z : ℤ) (d k : ℕ) (b : Box) → Good b
+    → holders x y z (cellBoxes (cells settled axis d k b)) ≡ cond (holdsCube x y z b) 1 0
 cover settled axis fair x y z =
     tree-ind settled axis fair (λ d k b cs. holders x y z (cellBoxes cs) ≡ one (holdsCube x y z b))
     (λ k b g. one-cell x y z (record { box = b; depth = k })) (λ d k b g e. one-cell x y z (record { box = b; depth = k }))

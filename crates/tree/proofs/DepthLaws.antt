@@ -33,5 +33,6 @@ module _ (settled : Box → Bool) (axis : Box → Axis) (e : ℕ) where
   deeper fair =
       tree-ind settled axis fair (λ d k b cs. cells settled axis (e + d) k b ≡ grown regrown cs)
       (λ k b g. ap (λ (n : ℕ). cells settled axis n k b) (add-zero e) ∙ sym (grown-one regrown (record { box = b; depth = k })))
-      (λ d k b g h. cell-stops settled axis (e + suc d) b h .cells1 k ∙ sym (grown-one regrown (record { box = b; depth = k }) ∙ cell-stops settled axis e b h .cells1 k))
+      (λ d k b g h. cell-stops settled axis (e + suc d) b h .cells1 k
+      ∙ sym (grown-one regrown (record { box = b; depth = k }) ∙ cell-stops settled axis e b h .cells1 k))
       (λ d k b cs ds g h p q. ap (λ (n : ℕ). cells settled axis n k b) (add-suc e d) ∙ rw h ((λ i. p i ++ q i) ∙ sym (grown-append regrown cs ds)))

@@ -38,11 +38,14 @@ module _ (b : Box) where
   one-cube p q r = rw (eq-eqb (span X b) 1 p, eq-eqb (span Y b) 1 q, eq-eqb (span Z b) 1 r)
 
 -- ---- no span is longer than the longest
-longest-of : (s : Axis → ℕ) (t v w : Bool) → leb (s Y) (s X) ≡ t → leb (s Z) (s X) ≡ v → leb (s Z) (s Y) ≡ w → (a : Axis) → s a ≤ s (cond t (cond v X Z) (cond w Y Z))
+longest-of : (s : Axis → ℕ) (t v w : Bool) → leb (s Y) (s X) ≡ t → leb (s Z) (s X) ≡ v → leb (s Z) (s Y) ≡ w → (a : Axis)
+    → s a ≤ s (cond t (cond v X Z) (cond w Y Z))
 longest-of s true true w p q r = by-axis (λ a. s a ≤ s X) (omega arith) (leb-true (s Y) (s X) p) (leb-true (s Z) (s X) q)
-longest-of s true false w p q r = by-axis (λ a. s a ≤ s Z) (omega (arith, leb-false (s Z) (s X) q)) (omega (arith, leb-true (s Y) (s X) p, leb-false (s Z) (s X) q)) (omega arith)
+longest-of s true false w p q r =
+    by-axis (λ a. s a ≤ s Z) (omega (arith, leb-false (s Z) (s X) q)) (omega (arith, leb-true (s Y) (s X) p, leb-false (s Z) (s X) q)) (omega arith)
 longest-of s false v true p q r = by-axis (λ a. s a ≤ s Y) (omega (arith, leb-false (s Y) (s X) p)) (omega arith) (leb-true (s Z) (s Y) r)
-longest-of s false v false p q r = by-axis (λ a. s a ≤ s Z) (omega (arith, leb-false (s Y) (s X) p, leb-false (s Z) (s Y) r)) (omega (arith, leb-false (s Z) (s Y) r)) (omega arith)
+longest-of s false v false p q r =
+    by-axis (λ a. s a ≤ s Z) (omega (arith, leb-false (s Y) (s X) p, leb-false (s Z) (s Y) r)) (omega (arith, leb-false (s Z) (s Y) r)) (omega arith)
 
 pub longest-most : (b : Box) (a : Axis) → span a b ≤ span (longest b) b
 unfolding longest

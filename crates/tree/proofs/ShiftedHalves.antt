@@ -13,26 +13,32 @@ middle-shifted l h e f = ap unshifted e ∙ unshifted-add l ((h - l) / 2) ∙ ap
 
 -- a is the axis that the code halves on, m the middle that it takes
 module _ (b : ShiftedBox) (g : Good (boxOf b)) {a : Axis} {m : ℕ} where
-  pub lower-x : a ≡ X → m ≡ b .lx + (b .hx - b .lx) / 2 → boxOf (record { lx = b .lx; ly = b .ly; lz = b .lz; hx = m; hy = b .hy; hz = b .hz }) ≡ lower a (boxOf b)
+  pub lower-x : a ≡ X → m ≡ b .lx + (b .hx - b .lx) / 2
+      → boxOf (record { lx = b .lx; ly = b .ly; lz = b .lz; hx = m; hy = b .hy; hz = b .hz }) ≡ lower a (boxOf b)
   unfolding boxOf lower
   lower-x e f = rw (e, middle-shifted (b .lx) (b .hx) f (good-shifted b g .span-x))
 
-  pub lower-y : a ≡ Y → m ≡ b .ly + (b .hy - b .ly) / 2 → boxOf (record { lx = b .lx; ly = b .ly; lz = b .lz; hx = b .hx; hy = m; hz = b .hz }) ≡ lower a (boxOf b)
+  pub lower-y : a ≡ Y → m ≡ b .ly + (b .hy - b .ly) / 2
+      → boxOf (record { lx = b .lx; ly = b .ly; lz = b .lz; hx = b .hx; hy = m; hz = b .hz }) ≡ lower a (boxOf b)
   unfolding boxOf lower
   lower-y e f = rw (e, middle-shifted (b .ly) (b .hy) f (good-shifted b g .span-y))
 
-  pub lower-z : a ≡ Z → m ≡ b .lz + (b .hz - b .lz) / 2 → boxOf (record { lx = b .lx; ly = b .ly; lz = b .lz; hx = b .hx; hy = b .hy; hz = m }) ≡ lower a (boxOf b)
+  pub lower-z : a ≡ Z → m ≡ b .lz + (b .hz - b .lz) / 2
+      → boxOf (record { lx = b .lx; ly = b .ly; lz = b .lz; hx = b .hx; hy = b .hy; hz = m }) ≡ lower a (boxOf b)
   unfolding boxOf lower
   lower-z e f = rw (e, middle-shifted (b .lz) (b .hz) f (good-shifted b g .span-z))
 
-  pub upper-x : a ≡ X → m ≡ b .lx + (b .hx - b .lx) / 2 → boxOf (record { lx = m; ly = b .ly; lz = b .lz; hx = b .hx; hy = b .hy; hz = b .hz }) ≡ upper a (boxOf b)
+  pub upper-x : a ≡ X → m ≡ b .lx + (b .hx - b .lx) / 2
+      → boxOf (record { lx = m; ly = b .ly; lz = b .lz; hx = b .hx; hy = b .hy; hz = b .hz }) ≡ upper a (boxOf b)
   unfolding boxOf upper
   upper-x e f = rw (e, middle-shifted (b .lx) (b .hx) f (good-shifted b g .span-x))
 
-  pub upper-y : a ≡ Y → m ≡ b .ly + (b .hy - b .ly) / 2 → boxOf (record { lx = b .lx; ly = m; lz = b .lz; hx = b .hx; hy = b .hy; hz = b .hz }) ≡ upper a (boxOf b)
+  pub upper-y : a ≡ Y → m ≡ b .ly + (b .hy - b .ly) / 2
+      → boxOf (record { lx = b .lx; ly = m; lz = b .lz; hx = b .hx; hy = b .hy; hz = b .hz }) ≡ upper a (boxOf b)
   unfolding boxOf upper
   upper-y e f = rw (e, middle-shifted (b .ly) (b .hy) f (good-shifted b g .span-y))
 
-  pub upper-z : a ≡ Z → m ≡ b .lz + (b .hz - b .lz) / 2 → boxOf (record { lx = b .lx; ly = b .ly; lz = m; hx = b .hx; hy = b .hy; hz = b .hz }) ≡ upper a (boxOf b)
+  pub upper-z : a ≡ Z → m ≡ b .lz + (b .hz - b .lz) / 2
+      → boxOf (record { lx = b .lx; ly = b .ly; lz = m; hx = b .hx; hy = b .hy; hz = b .hz }) ≡ upper a (boxOf b)
   unfolding boxOf upper
   upper-z e f = rw (e, middle-shifted (b .lz) (b .hz) f (good-shifted b g .span-z))

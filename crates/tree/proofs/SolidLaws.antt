@@ -35,8 +35,11 @@ module _ (inside : Box → Bool) where
     solid-cell d k b c = ap (volumeOf inside) (c .cells1 k) ∙ solid-one (record { box = b; depth = k })
 
     pub solid-halves : (d k : ℕ) (b : Box) → IsHalved settled axis d b
-        → volumeOf inside (cells settled axis d k b) ≡ volumeOf inside (cells settled axis (d - 1) (suc k) (lowerHalf settled axis b)) + volumeOf inside (cells settled axis (d - 1) (suc k) (upperHalf settled axis b))
-    solid-halves d k b h = ap (volumeOf inside) (h .cells2 k) ∙ solid-append (cells settled axis (d - 1) (suc k) (lowerHalf settled axis b)) (cells settled axis (d - 1) (suc k) (upperHalf settled axis b))
+        → volumeOf inside (cells settled axis d k b)
+        ≡ volumeOf inside (cells settled axis (d - 1) (suc k) (lowerHalf settled axis b))
+        + volumeOf inside (cells settled axis (d - 1) (suc k) (upperHalf settled axis b))
+    solid-halves d k b h = ap (volumeOf inside) (h .cells2 k)
+        ∙ solid-append (cells settled axis (d - 1) (suc k) (lowerHalf settled axis b)) (cells settled axis (d - 1) (suc k) (upperHalf settled axis b))
 
     pub solid-le : Fair axis → (d k : ℕ) (b : Box) → Good b → volumeOf inside (cells settled axis d k b) ≤ volume b
     solid-le fair =

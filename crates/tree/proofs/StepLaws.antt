@@ -30,8 +30,11 @@ module _ (settled : Box → Bool) (axis : Box → Axis) where
   -- ---- a box that is halved
   pub record IsHalved (d : ℕ) (b : Box) : Type 0 where
     pub leaves2 : leaves settled axis d b ≡ leaves settled axis (d - 1) (lowerHalf settled axis b) + leaves settled axis (d - 1) (upperHalf settled axis b)
-    pub box-count2 : boxCount settled axis d b ≡ 1 + boxCount settled axis (d - 1) (lowerHalf settled axis b) + boxCount settled axis (d - 1) (upperHalf settled axis b)
-    pub cells2 : (k : ℕ) → cells settled axis d k b ≡ cells settled axis (d - 1) (suc k) (lowerHalf settled axis b) ++ cells settled axis (d - 1) (suc k) (upperHalf settled axis b)
+    pub box-count2 : boxCount settled axis d b
+        ≡ 1 + boxCount settled axis (d - 1) (lowerHalf settled axis b) + boxCount settled axis (d - 1) (upperHalf settled axis b)
+    pub cells2 : (k : ℕ)
+        → cells settled axis d k b
+        ≡ cells settled axis (d - 1) (suc k) (lowerHalf settled axis b) ++ cells settled axis (d - 1) (suc k) (upperHalf settled axis b)
     pub good-lower : Good (lowerHalf settled axis b)
     pub good-upper : Good (upperHalf settled axis b)
 

@@ -14,7 +14,8 @@ use Rattle.tree.proofs.StepLaws.{wide}
 module _ (settled : Box → Bool) (axis : Box → Axis) (fair : Fair axis) (P : ℕ → ℕ → Box → List Cell → Type 0)
     (used-up : (k : ℕ) (b : Box) → Good b → P 0 k b (record { box = b; depth = k } ∷ []))
     (stopped : (d k : ℕ) (b : Box) → Good b → stops settled axis b ≡ true → P (suc d) k b (record { box = b; depth = k } ∷ []))
-    (joined : (d k : ℕ) (b : Box) (cs ds : List Cell) → Good b → stops settled axis b ≡ false → P d (suc k) (lowerHalf settled axis b) cs → P d (suc k) (upperHalf settled axis b) ds → P (suc d) k b (cs ++ ds)) where
+    (joined : (d k : ℕ) (b : Box) (cs ds : List Cell) → Good b → stops settled axis b ≡ false → P d (suc k) (lowerHalf settled axis b) cs
+    → P d (suc k) (upperHalf settled axis b) ds → P (suc d) k b (cs ++ ds)) where
   pub tree-ind : (d k : ℕ) (b : Box) → Good b → P d k b (cells settled axis d k b)
   unfolding cells
   tree-ind zero k b g = used-up k b g
@@ -23,7 +24,8 @@ module _ (settled : Box → Bool) (axis : Box → Axis) (fair : Fair axis) (P : 
       by-stop : (t : Bool) → stops settled axis b ≡ t
           → (Good (lowerHalf settled axis b) → P d (suc k) (lowerHalf settled axis b) (cells settled axis d (suc k) (lowerHalf settled axis b)))
           → (Good (upperHalf settled axis b) → P d (suc k) (upperHalf settled axis b) (cells settled axis d (suc k) (upperHalf settled axis b)))
-          → P (suc d) k b (cond t (record { box = b; depth = k } ∷ []) (cells settled axis d (suc k) (lowerHalf settled axis b) ++ cells settled axis d (suc k) (upperHalf settled axis b)))
+          → P (suc d) k b (cond t (record { box = b; depth = k } ∷ [])
+          (cells settled axis d (suc k) (lowerHalf settled axis b) ++ cells settled axis d (suc k) (upperHalf settled axis b)))
       by-stop true e l u = stopped d k b g e
       by-stop false e l u =
           let w = wide settled axis fair b e g in

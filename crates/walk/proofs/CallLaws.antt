@@ -27,7 +27,8 @@ use Rattle.tree.proofs.TickLaws.{ticks-good}
 use Rattle.tree.proofs.CountLaws.{length-cells}
 use Rattle.table.specs.Table.{headBytes, cellsBytes, tableBytes}
 use Rattle.table.proofs.Written.{written}
-use Rattle.walk.specs.Walk.{settled, cellsOf, evaluatedOf, solidOf, marksOf, tableOf, spans, depths, entryRefusal, roomRefusal, roomTable, walkNumber, walkTable}
+use Rattle.walk.specs.Walk.{settled, cellsOf, evaluatedOf, solidOf, marksOf, tableOf, spans, depths}
+use Rattle.walk.specs.Walk.{entryRefusal, roomRefusal, roomTable, walkNumber, walkTable}
 use Rattle.walk.proofs.MarkLaws.{marks-leaves}
 
 -- ---- what the refusals before 13 leave
@@ -50,12 +51,18 @@ entered n lo hi D e =
     let (dl, dh) = both (leZ (pos 0) D) (leZ D (pos 24)) (kept (depths D) (none-last (not (depths D)) 11 e3)) in
     let l = ticks-within lo tl in
     let h = ticks-within hi th in
-    let box : InTicks (boxFrom lo hi) = record { lows = by-axis (λ a. Within 1048576 (low a (boxFrom lo hi))) (l .x) (l .y) (l .z); highs = by-axis (λ a. Within 1048576 (high a (boxFrom lo hi))) (h .x) (h .y) (h .z) } in
+    let box : InTicks (boxFrom lo hi) = record {
+      lows = by-axis (λ a. Within 1048576 (low a (boxFrom lo hi))) (l .x) (l .y) (l .z);
+      highs = by-axis
+          (λ a. Within 1048576 (high a (boxFrom lo hi))) (h .x) (h .y) (h .z);
+    } in
     let sign : T (nonNeg D) = yes-nonNeg {z = D} (leZ-yes {a = pos 0} {b = D} dl) in
     record {
       described = z;
       box = box;
-      good = ticks-good (boxFrom lo hi) box (by-axis (λ a. low a (boxFrom lo hi) <ℤ high a (boxFrom lo hi)) (ltZ-yes {a = at lo 0} {b = at hi 0} sx) (ltZ-yes {a = at lo 1} {b = at hi 1} sy) (ltZ-yes {a = at lo 2} {b = at hi 2} sz));
+      good = ticks-good (boxFrom lo hi) box
+          (by-axis (λ a. low a (boxFrom lo hi) <ℤ high a (boxFrom lo hi)) (ltZ-yes {a = at lo 0} {b = at hi 0} sx) (ltZ-yes {a = at lo 1} {b = at hi 1} sy)
+          (ltZ-yes {a = at lo 2} {b = at hi 2} sz));
       depth-sign = sign;
       depth-most = most D sign dh;
     }
@@ -94,7 +101,8 @@ module _ (d : Description) (lo hi : List ℤ) (D : ℤ) (t : List ℕ) {n : ℕ}
       let e = ap (λ (k : ℕ). eqb k 0) (sym number) ∙ ne-eqb n 0 h in
       (rw e number, rw e)
 
-  pub walk-ran : n ≡ 0 → {r : ℕ} {u : List ℕ} → r ≡ roomRefusal (leaf d) (natAbs D) (boxFrom lo hi) (length t) → u ≡ roomTable (leaf d) (natAbs D) (boxFrom lo hi) (length t)
+  pub walk-ran : n ≡ 0 → {r : ℕ} {u : List ℕ} → r ≡ roomRefusal (leaf d) (natAbs D) (boxFrom lo hi) (length t)
+      → u ≡ roomTable (leaf d) (natAbs D) (boxFrom lo hi) (length t)
       → (r ≡ walkNumber d lo hi D (length t)) × (u ≡ walkTable d lo hi D t)
   unfolding walkNumber walkTable
   walk-ran h p q =

@@ -137,7 +137,9 @@ module _ (d : Description) (accepted : Accepted d) (D : ℕ) where
     pub solid-most : solidOf (leaf d) D b ≤ volume b
     solid-most = solid-le (inside (leaf d)) (settled (leaf d)) longest fair-longest D 0 b good
 
-    pub read : (len : ℕ) → Told (tableBytes len (evaluatedOf (leaf d) D b) (solidOf (leaf d) D b) (openOf (leaf d) D b) ms) (evaluatedOf (leaf d) D b) (solidOf (leaf d) D b) (openOf (leaf d) D b) ms
+    pub read : (len : ℕ)
+        → Told (tableBytes len (evaluatedOf (leaf d) D b) (solidOf (leaf d) D b) (openOf (leaf d) D b) ms) (evaluatedOf (leaf d) D b)
+        (solidOf (leaf d) D b) (openOf (leaf d) D b) ms
     read len =
         let v = volume-small b good in
         told len (evaluatedOf (leaf d) D b) (solidOf (leaf d) D b) (openOf (leaf d) D b) ms (all-fit cs each)
@@ -165,9 +167,16 @@ module _ (d : Description) (accepted : Accepted d) (D : ℕ) where
         unsettled = subst⁻¹ (λ (l : List Mark). Pairwise (λ m c. (m .state ≡ 3 → Undecided d D c) × (Undecided d D c → m .state ≡ 3)) l cs) (r .marks-are)
             (pairwise (leaf d) _ _ (λ c m. (undecided c m, unsettled-number c)) cs each);
         walk-order = subst⁻¹ (λ (l : List Mark). Pairwise (λ m c. m .box ≡ c .box) l cs) (r .marks-are) (pairwise (leaf d) _ _ (λ c m. refl) cs each);
-        marked = subst⁻¹ (Every (λ m. (m .state ≡ 3 → ⊥) → (m .state ≡ 1) ⊎ (m .state ≡ 2))) (r .marks-are) (every (leaf d) _ _ (λ c m. number-other (stateAt (leaf d) (c .box))) cs each);
+        marked = subst⁻¹ (Every (λ m. (m .state ≡ 3 → ⊥) → (m .state ≡ 1) ⊎ (m .state ≡ 2))) (r .marks-are)
+            (every (leaf d) _ _ (λ c m. number-other (stateAt (leaf d) (c .box))) cs each);
         evaluated = omega (arith, r .evaluated-is, cells-read, box-count-leaves (settled (leaf d)) longest D b);
-        evaluated-most = omega (arith, r .evaluated-is, box-count-leaves (settled (leaf d)) longest D b, leaves-le (settled (leaf d)) longest D b, two-pow-succ D);
+        evaluated-most = omega (
+          arith,
+          r .evaluated-is,
+          box-count-leaves (settled (leaf d)) longest D b,
+          leaves-le (settled (leaf d)) longest D b,
+          two-pow-succ D,
+        );
         evaluated-tree = r .evaluated-is;
         first = r .first-is;
         ends = r .ends (omega (arith, cells-many, leaves-least (settled (leaf d)) longest D b));

@@ -43,19 +43,22 @@ module _ (g : Gyroid) where
   every P Q f [] q = tt
   every P Q f (c ∷ cs) q = (f c (q .0), every P Q f cs (q .1))
 
-  pub pairwise : (P : Mark → Cell → Type 0) (Q : Cell → Type 0) → ((c : Cell) → Q c → P (markOf g c) c) → (cs : List Cell) → All Q cs → Pairwise P (marksOf g cs) cs
+  pub pairwise : (P : Mark → Cell → Type 0) (Q : Cell → Type 0) → ((c : Cell) → Q c → P (markOf g c) c) → (cs : List Cell) → All Q cs
+      → Pairwise P (marksOf g cs) cs
   unfolding marksOf
   pairwise P Q f [] q = tt
   pairwise P Q f (c ∷ cs) q = (f c (q .0), pairwise P Q f cs (q .1))
 
   -- the marks of a box that is a cell, and of one that is halved
-  pub marks-cell : (d k : ℕ) (b : Box) (s : State) {x : ℕ} → AtCell g d b s → x ≡ stateNumber s → marksOf g (cells (settled g) longest d k b) ≡ record { state = x; box = b } ∷ []
+  pub marks-cell : (d k : ℕ) (b : Box) (s : State) {x : ℕ} → AtCell g d b s → x ≡ stateNumber s
+      → marksOf g (cells (settled g) longest d k b) ≡ record { state = x; box = b } ∷ []
   marks-cell d k b s at e =
       ap (marksOf g) (at .tree .cells1 k) ∙ marks-one (record { box = b; depth = k })
       ∙ (λ i. record { state = (ap stateNumber (at .state) ∙ sym e) i; box = b } ∷ [])
 
   pub marks-halves : (d k : ℕ) (b l h : Box) (a : Axis) → AtHalves g d b a → l ≡ lower a b → h ≡ upper a b
-      → marksOf g (cells (settled g) longest d k b) ≡ marksOf g (cells (settled g) longest (d - 1) (suc k) l) ++ marksOf g (cells (settled g) longest (d - 1) (suc k) h)
+      → marksOf g (cells (settled g) longest d k b)
+      ≡ marksOf g (cells (settled g) longest (d - 1) (suc k) l) ++ marksOf g (cells (settled g) longest (d - 1) (suc k) h)
   marks-halves d k b l h a at e f =
       ap (marksOf g) (at .cells2 k e f) ∙ marks-append (cells (settled g) longest (d - 1) (suc k) l) (cells (settled g) longest (d - 1) (suc k) h)
 

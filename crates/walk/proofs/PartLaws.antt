@@ -51,11 +51,13 @@ module _ (g : Gyroid) where
   parts-state b p e = ap (λ (q : Parts). stateOf (joined g (q .x) (q .y) (q .z))) e ∙ joined-state g (tickBox (lows b) (highs b))
 
   -- a box with its own parts and the state that they give it
-  pub own-parts : (b : ShiftedBox) (p : Parts) (s : State) → Good (boxOf b) → p ≡ partsOf g (boxOf b) → s ≡ stateOf (joined g (p .x) (p .y) (p .z)) → Stands g (record { b = b; p = p; s = s })
+  pub own-parts : (b : ShiftedBox) (p : Parts) (s : State) → Good (boxOf b) → p ≡ partsOf g (boxOf b) → s ≡ stateOf (joined g (p .x) (p .y) (p .z))
+      → Stands g (record { b = b; p = p; s = s })
   own-parts b p s good e f = record { good = good; carried = e; state = f ∙ parts-state (boxOf b) p e }
 
   -- the parts of one that it is but along a, with its own along a
-  pub beside-parts : (a : Axis) (n : Node) (c : Box) {p : Parts} {q : Part} → Stands g n → Beside a (boxOf (n .b)) c → q ≡ partOf g a c → p ≡ renewed (n .p) a q → p ≡ partsOf g c
+  pub beside-parts : (a : Axis) (n : Node) (c : Box) {p : Parts} {q : Part} → Stands g n → Beside a (boxOf (n .b)) c → q ≡ partOf g a c
+      → p ≡ renewed (n .p) a q → p ≡ partsOf g c
   beside-parts a n c s beside e f = f ∙ (λ i. renewed (s .carried i) a (e i)) ∙ renewed-is a (boxOf (n .b)) c beside
 
 -- ---- a half of a box: it is good, and the box but along the axis

@@ -55,8 +55,10 @@ module _ (g : Gyroid) where
   pub record AtHalves (d : ℕ) (b : Box) (a : Axis) : Type 0 where
     pub left : 0 < d
     pub two : 2 ≤ span a b
-    pub leaves2 : {l h : Box} → l ≡ lower a b → h ≡ upper a b → leaves (settled g) longest d b ≡ leaves (settled g) longest (d - 1) l + leaves (settled g) longest (d - 1) h
-    pub box-count2 : {l h : Box} → l ≡ lower a b → h ≡ upper a b → boxCount (settled g) longest d b ≡ 1 + boxCount (settled g) longest (d - 1) l + boxCount (settled g) longest (d - 1) h
+    pub leaves2 : {l h : Box} → l ≡ lower a b → h ≡ upper a b
+        → leaves (settled g) longest d b ≡ leaves (settled g) longest (d - 1) l + leaves (settled g) longest (d - 1) h
+    pub box-count2 : {l h : Box} → l ≡ lower a b → h ≡ upper a b
+        → boxCount (settled g) longest d b ≡ 1 + boxCount (settled g) longest (d - 1) l + boxCount (settled g) longest (d - 1) h
     pub cells2 : (k : ℕ) {l h : Box} → l ≡ lower a b → h ≡ upper a b
         → cells (settled g) longest d k b ≡ cells (settled g) longest (d - 1) (suc k) l ++ cells (settled g) longest (d - 1) (suc k) h
 
@@ -75,7 +77,8 @@ module _ (g : Gyroid) where
         cells2 = λ k u v. h .cells2 k ∙ (λ i. cells (settled g) longest (d - 1) (suc k) (sym u i) ++ cells (settled g) longest (d - 1) (suc k) (sym v i));
       }
 
-  halves-by : (t : Bool) (d : ℕ) (b : Box) (a : Axis) → Good b → ends d b ≡ t → cond t (Step.Cell (stateAt g b)) (Step.Halves (longest b)) ≡ Step.Halves a → AtHalves d b a
+  halves-by : (t : Bool) (d : ℕ) (b : Box) (a : Axis) → Good b → ends d b ≡ t → cond t (Step.Cell (stateAt g b)) (Step.Halves (longest b)) ≡ Step.Halves a
+      → AtHalves d b a
   halves-by true d b a good e f = let z : _≡_ {A = ℕ} 0 1 = cc in absurd (omega arith)
   halves-by false d b a good e f =
       let axis : longest b ≡ a = cc in

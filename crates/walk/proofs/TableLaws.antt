@@ -22,7 +22,8 @@ use Rattle.tree.proofs.VolumeLaws.{volume-small}
 use Rattle.tree.proofs.CountLaws.{box-count-small}
 use Rattle.table.specs.Table.{Mark}
 use Rattle.table.specs.Told.{Told}
-use Rattle.walk.specs.Walk.{stateAt, settled, cellsOf, evaluatedOf, solidOf, openOf, marksOf, tableOf, entryRefusal, roomRefusal, roomTable, walkNumber, walkTable}
+use Rattle.walk.specs.Walk.{stateAt, settled, cellsOf, evaluatedOf, solidOf, openOf, marksOf, tableOf}
+use Rattle.walk.specs.Walk.{entryRefusal, roomRefusal, roomTable, walkNumber, walkTable}
 use Rattle.walk.specs.Demand.{Every}
 use Rattle.walk.proofs.CallLaws.{entered}
 use Rattle.walk.proofs.MarkLaws.{every, length-marks}
@@ -50,7 +51,12 @@ number-most Unsettled = omega arith
 -- the table behind all refusals
 room-left : (g : Gyroid) (D : ℕ) (b : Box) (len : ℕ) → roomRefusal g D b len ≡ 0 → length (marksOf g (cellsOf g D b)) + 1 ≤ len / 32
 unfolding roomRefusal
-room-left g D b len e = omega (arith, length-marks g (cellsOf g D b), nltb→le (len / 32) (length (cellsOf g D b) + 1) (none-last (ltb (len / 32) (length (cellsOf g D b) + 1)) 12 e))
+room-left g D b len e =
+    omega (
+      arith,
+      length-marks g (cellsOf g D b),
+      nltb→le (len / 32) (length (cellsOf g D b) + 1) (none-last (ltb (len / 32) (length (cellsOf g D b) + 1)) 12 e),
+    )
 
 module _ (d : Description) (lo hi : List ℤ) (D : ℤ) (t : List ℕ) where
   abbrev b : Box
@@ -75,10 +81,12 @@ module _ (d : Description) (lo hi : List ℤ) (D : ℤ) (t : List ℕ) where
       let accepted : Accepted d = record { none = h .described } in
       let v = volume-small b (h .good) in
       record {
-        told = subst⁻¹ (λ (u : List ℕ). Told u (evaluatedOf (leaf d) depth b) (solidOf (leaf d) depth b) (openOf (leaf d) depth b) ms) (table-is e r) (read d accepted depth (h .depth-most) b (h .good) (length t));
+        told = subst⁻¹ (λ (u : List ℕ). Told u (evaluatedOf (leaf d) depth b) (solidOf (leaf d) depth b) (openOf (leaf d) depth b) ms) (table-is e r)
+            (read d accepted depth (h .depth-most) b (h .good) (length t));
         fits = room-left (leaf d) depth b (length t) r;
         evaluated-small = omega (arith, box-count-small (settled (leaf d)) longest depth b (h .depth-most));
         solid-small = omega (arith, v, solid-most d accepted depth (h .depth-most) b (h .good));
         open-small = omega (arith, v);
-        marks = every (leaf d) InTree _ (λ c m. record { state = number-most (stateAt (leaf d) (c .box)); good = m .good }) (cellsOf (leaf d) depth b) (each d accepted depth (h .depth-most) b (h .good));
+        marks = every (leaf d) InTree _ (λ c m. record { state = number-most (stateAt (leaf d) (c .box)); good = m .good }) (cellsOf (leaf d) depth b)
+            (each d accepted depth (h .depth-most) b (h .good));
       }

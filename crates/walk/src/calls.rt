@@ -88,7 +88,8 @@ pub fn walk(
 ) -> u32
     ensures answer { λ r. ⌜ r ≡ walkNumber description lo hi depth (length (now (table .entry))) ⌝ }
     ensures left { λ _. ⌜ now (table .exit) ≡ walkTable description lo hi depth (now (table .entry)) ⌝ }
-    ensures demand { λ _. ⌜ (Supposed description lo hi depth (length (now (table .entry))) → Demand description (boxFrom lo hi) (natAbs depth) (now (table .exit))) ⌝ }
+    ensures demand { λ _. ⌜ (Supposed description lo hi depth (length (now (table .entry)))
+        → Demand description (boxFrom lo hi) (natAbs depth) (now (table .exit))) ⌝ }
 {
     let made = Gyroid::certified(description);
     let number = entries(made.refusal, lo, hi, depth);

@@ -21,7 +21,8 @@ pub fn fill(g: Gyroid, n: Node, depth: usize, t: &mut [u8], slot: usize, total: 
     requires { ⌜ depth ≤ 24 ⌝ }
     requires { ⌜ 32 * (slot + leaves (settled g) longest depth (boxOf (n .b))) ≤ length (now t) ⌝ }
     ensures { λ r. ⌜ r ≡ slot + leaves (settled g) longest depth (boxOf (n .b)) ⌝ }
-    ensures { λ _. ⌜ ((k : ℕ) → now (t .exit) ≡ sets (now (t .entry)) (32 * slot) (cellsBytes total slot (marksOf g (cells (settled g) longest depth k (boxOf (n .b)))))) ⌝ }
+    ensures { λ _. ⌜ ((k : ℕ) → now (t .exit) ≡ sets (now (t .entry)) (32 * slot)
+        (cellsBytes total slot (marksOf g (cells (settled g) longest depth k (boxOf (n .b)))))) ⌝ }
 {
     match n.look(depth) {
         Step::Cell(s) => {

@@ -26,8 +26,14 @@ same-length c = search needs
 
 returns-2 : tie.Need-returns-2
 unfolding affineJet
-returns-2 c = passed _ _ _ _ _ _ _ (c .before .before .before .before .before .before .before .before .lengths .ensures) (c .before .before .before .before .before .before .before .if1 .left)
-    (ap (jetSaid) (c .before .before .before .before .affine-jet .ensures ∙ (λ k. affineJetCall (c .before .before .before .before .before .before .describe .ensures k) (c .before .before .before .before .before .world-at .ensures k))))
+returns-2 c =
+    let at-affine-jet = c .before .before .before .before in
+    let at-world = at-affine-jet .before in
+    let at-describe = at-world .before in
+    let at-test = at-describe .before in
+    let at-lengths = at-test .before in
+    passed _ _ _ _ _ _ _ (at-lengths .lengths .ensures) (at-test .if1 .left)
+    (ap (jetSaid) (at-affine-jet .affine-jet .ensures ∙ (λ k. affineJetCall (at-describe .describe .ensures k) (at-world .world-at .ensures k))))
     (c .before .before .put-jet .ensures .0) (c .before .before .put-jet .ensures .1)
 
 pub gyroid-affine-jet-spec : {M : Type 1} → statement M

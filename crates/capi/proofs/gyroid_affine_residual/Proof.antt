@@ -19,15 +19,22 @@ world-at-requires : tie.Need-world-at-requires
 world-at-requires c κs = holds ((sized _ _ _ _ _ (c .before .before .lengths .ensures) (c .before .if1 .left)) .argument)
 
 put-enclosure-requires : tie.Need-put-enclosure-requires
-put-enclosure-requires c κs = (sized _ _ _ _ _ (c .before .before .before .before .before .lengths .ensures) (c .before .before .before .before .if1 .left)) .room
+put-enclosure-requires c κs =
+    (sized _ _ _ _ _ (c .before .before .before .before .before .lengths .ensures) (c .before .before .before .before .if1 .left)) .room
 
 same-length : tie.Need-same-length
 same-length c = search needs
 
 returns-2 : tie.Need-returns-2
 unfolding affineResidual
-returns-2 c = passed _ _ _ _ _ _ _ (c .before .before .before .before .before .before .before .before .lengths .ensures) (c .before .before .before .before .before .before .before .if1 .left)
-    (c .before .before .before .before .affine-residual .ensures ∙ (λ k. affineResidualCall (c .before .before .before .before .before .before .describe .ensures k) (c .before .before .before .before .before .world-at .ensures k)))
+returns-2 c =
+    let at-affine-residual = c .before .before .before .before in
+    let at-world = at-affine-residual .before in
+    let at-describe = at-world .before in
+    let at-test = at-describe .before in
+    let at-lengths = at-test .before in
+    passed _ _ _ _ _ _ _ (at-lengths .lengths .ensures) (at-test .if1 .left)
+    (at-affine-residual .affine-residual .ensures ∙ (λ k. affineResidualCall (at-describe .describe .ensures k) (at-world .world-at .ensures k)))
     (c .before .before .put-enclosure .ensures .0) (c .before .before .put-enclosure .ensures .1)
 
 pub gyroid-affine-residual-spec : {M : Type 1} → statement M

@@ -27,8 +27,14 @@ same-length c = search needs
 
 returns-2 : tie.Need-returns-2
 unfolding boxState
-returns-2 c = passed _ _ _ _ _ _ _ (c .before .before .before .before .before .before .before .lengths .ensures) (c .before .before .before .before .before .before .if1 .left)
-    (ap (each pos) (c .before .before .before .box-state .ensures .0 ∙ (λ k. boxStateCall (c .before .before .before .before .before .describe .ensures k) (c .before .before .before .before .world-at .ensures k))))
+returns-2 c =
+    let at-box-state = c .before .before .before in
+    let at-world = at-box-state .before in
+    let at-describe = at-world .before in
+    let at-test = at-describe .before in
+    let at-lengths = at-test .before in
+    passed _ _ _ _ _ _ _ (at-lengths .lengths .ensures) (at-test .if1 .left)
+    (ap (each pos) (at-box-state .box-state .ensures .0 ∙ (λ k. boxStateCall (at-describe .describe .ensures k) (at-world .world-at .ensures k))))
     (c .before .put-state .ensures .0) (c .before .put-state .ensures .1)
 
 pub gyroid-box-state-spec : {M : Type 1} → statement M

@@ -23,9 +23,14 @@ same-length c = search needs
 
 returns-2 : tie.Need-returns-2
 unfolding curvature
-returns-2 c = passed _ _ _ _ _ _ _ (c .before .before .before .before .before .before .before .lengths .ensures) (c .before .before .before .before .before .before .if1 .left)
-    (c .before .before .before .before .curvature .ensures ∙ (λ k. curvatureCall (c .before .before .before .before .before .describe .ensures k)))
-    (c .before .before .put-enclosure .ensures .0) (c .before .before .put-enclosure .ensures .1)
+returns-2 c =
+    let at-curvature = c .before .before .before .before in
+    let at-describe = at-curvature .before in
+    let at-test = at-describe .before in
+    let at-lengths = at-test .before in
+    passed _ _ _ _ _ _ _ (at-lengths .lengths .ensures) (at-test .if1 .left)
+    (at-curvature .curvature .ensures ∙ (λ k. curvatureCall (at-describe .describe .ensures k))) (c .before .before .put-enclosure .ensures .0)
+    (c .before .before .put-enclosure .ensures .1)
 
 pub gyroid-curvature-spec : {M : Type 1} → statement M
 gyroid-curvature-spec =

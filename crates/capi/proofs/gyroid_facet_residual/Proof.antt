@@ -19,15 +19,22 @@ corners-at-requires : tie.Need-corners-at-requires
 corners-at-requires c κs = (sized _ _ _ _ _ (c .before .before .lengths .ensures) (c .before .if1 .left)) .argument
 
 put-enclosure-requires : tie.Need-put-enclosure-requires
-put-enclosure-requires c κs = (sized _ _ _ _ _ (c .before .before .before .before .before .lengths .ensures) (c .before .before .before .before .if1 .left)) .room
+put-enclosure-requires c κs =
+    (sized _ _ _ _ _ (c .before .before .before .before .before .lengths .ensures) (c .before .before .before .before .if1 .left)) .room
 
 same-length : tie.Need-same-length
 same-length c = search needs
 
 returns-2 : tie.Need-returns-2
 unfolding facetResidual
-returns-2 c = passed _ _ _ _ _ _ _ (c .before .before .before .before .before .before .before .before .lengths .ensures) (c .before .before .before .before .before .before .before .if1 .left)
-    (c .before .before .before .before .facet-residual .ensures ∙ (λ k. facetResidualCall (c .before .before .before .before .before .before .describe .ensures k) (c .before .before .before .before .before .corners-at .ensures k)))
+returns-2 c =
+    let at-facet-residual = c .before .before .before .before in
+    let at-corners = at-facet-residual .before in
+    let at-describe = at-corners .before in
+    let at-test = at-describe .before in
+    let at-lengths = at-test .before in
+    passed _ _ _ _ _ _ _ (at-lengths .lengths .ensures) (at-test .if1 .left)
+    (at-facet-residual .facet-residual .ensures ∙ (λ k. facetResidualCall (at-describe .describe .ensures k) (at-corners .corners-at .ensures k)))
     (c .before .before .put-enclosure .ensures .0) (c .before .before .put-enclosure .ensures .1)
 
 pub gyroid-facet-residual-spec : {M : Type 1} → statement M

@@ -26,8 +26,14 @@ same-length c = search needs
 
 returns-2 : tie.Need-returns-2
 unfolding fast
-returns-2 c = passed _ _ _ _ _ _ _ (c .before .before .before .before .before .before .before .before .lengths .ensures) (c .before .before .before .before .before .before .before .if1 .left)
-    (c .before .before .before .before .fast .ensures ∙ (λ k. fastCall (c .before .before .before .before .before .before .describe .ensures k) (c .before .before .before .before .before .point-at .ensures k)))
+returns-2 c =
+    let at-fast = c .before .before .before .before in
+    let at-point = at-fast .before in
+    let at-describe = at-point .before in
+    let at-test = at-describe .before in
+    let at-lengths = at-test .before in
+    passed _ _ _ _ _ _ _ (at-lengths .lengths .ensures) (at-test .if1 .left)
+    (at-fast .fast .ensures ∙ (λ k. fastCall (at-describe .describe .ensures k) (at-point .point-at .ensures k)))
     (c .before .before .put-double .ensures .0) (c .before .before .put-double .ensures .1)
 
 pub gyroid-fast-spec : {M : Type 1} → statement M

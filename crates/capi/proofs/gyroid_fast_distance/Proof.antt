@@ -26,8 +26,14 @@ same-length c = search needs
 
 returns-2 : tie.Need-returns-2
 unfolding fastDistance
-returns-2 c = passed _ _ _ _ _ _ _ (c .before .before .before .before .before .before .before .before .lengths .ensures) (c .before .before .before .before .before .before .before .if1 .left)
-    (c .before .before .before .before .fast-distance .ensures ∙ (λ k. fastDistanceCall (c .before .before .before .before .before .before .describe .ensures k) (c .before .before .before .before .before .point-at .ensures k)))
+returns-2 c =
+    let at-fast-distance = c .before .before .before .before in
+    let at-point = at-fast-distance .before in
+    let at-describe = at-point .before in
+    let at-test = at-describe .before in
+    let at-lengths = at-test .before in
+    passed _ _ _ _ _ _ _ (at-lengths .lengths .ensures) (at-test .if1 .left)
+    (at-fast-distance .fast-distance .ensures ∙ (λ k. fastDistanceCall (at-describe .describe .ensures k) (at-point .point-at .ensures k)))
     (c .before .before .put-double .ensures .0) (c .before .before .put-double .ensures .1)
 
 pub gyroid-fast-distance-spec : {M : Type 1} → statement M

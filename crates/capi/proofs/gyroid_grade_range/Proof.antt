@@ -24,15 +24,26 @@ whole-point-requires-2 : tie.Need-whole-point-requires-2
 whole-point-requires-2 c κs = holds ((sized _ _ _ _ _ (c .before .before .before .lengths .ensures) (c .before .before .if1 .left)) .argument)
 
 put-range-requires : tie.Need-put-range-requires
-put-range-requires c κs = (sized _ _ _ _ _ (c .before .before .before .before .before .before .lengths .ensures) (c .before .before .before .before .before .if1 .left)) .room
+put-range-requires c κs =
+    let at-test = c .before .before .before .before .before in
+    let at-lengths = at-test .before in
+    (sized _ _ _ _ _ (at-lengths .lengths .ensures) (at-test .if1 .left)) .room
 
 same-length : tie.Need-same-length
 same-length c = search needs
 
 returns-2 : tie.Need-returns-2
 unfolding gradeRange
-returns-2 c = passed _ _ _ _ _ _ _ (c .before .before .before .before .before .before .before .before .lengths .ensures) (c .before .before .before .before .before .before .before .if1 .left)
-    (c .before .before .before .grade-range .ensures .0 ∙ (λ k. rangeCall (c .before .before .before .before .before .before .level-of .ensures k) (c .before .before .before .before .before .whole-point .ensures k) (c .before .before .before .before .whole-point2 .ensures k)))
+returns-2 c =
+    let at-grade-range = c .before .before .before in
+    let at-whole-point2 = at-grade-range .before in
+    let at-whole-point = at-whole-point2 .before in
+    let at-level = at-whole-point .before in
+    let at-test = at-level .before in
+    let at-lengths = at-test .before in
+    passed _ _ _ _ _ _ _ (at-lengths .lengths .ensures) (at-test .if1 .left)
+    (at-grade-range .grade-range .ensures .0
+    ∙ (λ k. rangeCall (at-level .level-of .ensures k) (at-whole-point .whole-point .ensures k) (at-whole-point2 .whole-point2 .ensures k)))
     (c .before .put-range .ensures .0) (c .before .put-range .ensures .1)
 
 pub gyroid-grade-range-spec : {M : Type 1} → statement M

@@ -23,9 +23,14 @@ same-length c = search needs
 
 returns-2 : tie.Need-returns-2
 unfolding graded
-returns-2 c = passed _ _ _ _ _ _ _ (c .before .before .before .before .before .before .lengths .ensures) (c .before .before .before .before .before .if1 .left)
-    (ap (each bit) (c .before .before .before .graded .ensures ∙ (λ k. gradedCall (c .before .before .before .before .describe .ensures k))))
-    (c .before .put-truth .ensures .0) (c .before .put-truth .ensures .1)
+returns-2 c =
+    let at-graded = c .before .before .before in
+    let at-describe = at-graded .before in
+    let at-test = at-describe .before in
+    let at-lengths = at-test .before in
+    passed _ _ _ _ _ _ _ (at-lengths .lengths .ensures) (at-test .if1 .left)
+    (ap (each bit) (at-graded .graded .ensures ∙ (λ k. gradedCall (at-describe .describe .ensures k)))) (c .before .put-truth .ensures .0)
+    (c .before .put-truth .ensures .1)
 
 pub gyroid-graded-spec : {M : Type 1} → statement M
 gyroid-graded-spec =

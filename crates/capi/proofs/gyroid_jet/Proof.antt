@@ -26,8 +26,14 @@ same-length c = search needs
 
 returns-2 : tie.Need-returns-2
 unfolding jet
-returns-2 c = passed _ _ _ _ _ _ _ (c .before .before .before .before .before .before .before .before .lengths .ensures) (c .before .before .before .before .before .before .before .if1 .left)
-    (ap (jetSaid) (c .before .before .before .before .jet .ensures ∙ (λ k. jetCall (c .before .before .before .before .before .before .describe .ensures k) (c .before .before .before .before .before .world-at .ensures k))))
+returns-2 c =
+    let at-jet = c .before .before .before .before in
+    let at-world = at-jet .before in
+    let at-describe = at-world .before in
+    let at-test = at-describe .before in
+    let at-lengths = at-test .before in
+    passed _ _ _ _ _ _ _ (at-lengths .lengths .ensures) (at-test .if1 .left)
+    (ap (jetSaid) (at-jet .jet .ensures ∙ (λ k. jetCall (at-describe .describe .ensures k) (at-world .world-at .ensures k))))
     (c .before .before .put-jet .ensures .0) (c .before .before .put-jet .ensures .1)
 
 pub gyroid-jet-spec : {M : Type 1} → statement M

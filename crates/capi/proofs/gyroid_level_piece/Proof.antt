@@ -25,16 +25,27 @@ whole-point-requires-2 : tie.Need-whole-point-requires-2
 whole-point-requires-2 c κs = holds ((sized _ _ _ _ _ (c .before .before .before .lengths .ensures) (c .before .before .if1 .left)) .argument)
 
 put-piece-requires : tie.Need-put-piece-requires
-put-piece-requires c κs = (sized _ _ _ _ _ (c .before .before .before .before .before .before .lengths .ensures) (c .before .before .before .before .before .if1 .left)) .room
+put-piece-requires c κs =
+    let at-test = c .before .before .before .before .before in
+    let at-lengths = at-test .before in
+    (sized _ _ _ _ _ (at-lengths .lengths .ensures) (at-test .if1 .left)) .room
 
 same-length : tie.Need-same-length
 same-length c = search needs
 
 returns-2 : tie.Need-returns-2
 unfolding levelPiece
-returns-2 c = passed _ _ _ _ _ _ _ (c .before .before .before .before .before .before .before .before .lengths .ensures) (c .before .before .before .before .before .before .before .if1 .left)
-    (ap (each pos) (c .before .before .before .level-piece .ensures .0 ∙ (λ k. levelPieceCall (c .before .before .before .before .before .before .describe .ensures k) (c .before .before .before .before .before .whole-point .ensures k) (c .before .before .before .before .whole-point2 .ensures k))))
-    (c .before .put-piece .ensures .0) (c .before .put-piece .ensures .1)
+returns-2 c =
+    let at-level-piece = c .before .before .before in
+    let at-whole-point2 = at-level-piece .before in
+    let at-whole-point = at-whole-point2 .before in
+    let at-describe = at-whole-point .before in
+    let at-test = at-describe .before in
+    let at-lengths = at-test .before in
+    passed _ _ _ _ _ _ _ (at-lengths .lengths .ensures) (at-test .if1 .left)
+    (ap (each pos) (at-level-piece .level-piece .ensures .0
+    ∙ (λ k. levelPieceCall (at-describe .describe .ensures k) (at-whole-point .whole-point .ensures k)
+    (at-whole-point2 .whole-point2 .ensures k)))) (c .before .put-piece .ensures .0) (c .before .put-piece .ensures .1)
 
 pub gyroid-level-piece-spec : {M : Type 1} → statement M
 gyroid-level-piece-spec =

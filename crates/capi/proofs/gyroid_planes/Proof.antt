@@ -17,16 +17,24 @@ describe-requires : tie.Need-describe-requires
 describe-requires c κs = (sized _ _ _ _ _ (c .before .lengths .ensures) (c .if1 .left)) .entries
 
 put-planes-requires : tie.Need-put-planes-requires
-put-planes-requires c κs = ((sized _ _ _ _ _ (c .before .before .before .before .lengths .ensures) (c .before .before .before .if1 .left)) .room, planes-axis (c .before .planes .result) _ (c .before .planes .ensures))
+put-planes-requires c κs = (
+  (sized _ _ _ _ _ (c .before .before .before .before .lengths .ensures) (c .before .before .before .if1 .left)) .room,
+  planes-axis (c .before .planes .result) _ (c .before .planes .ensures),
+)
 
 same-length : tie.Need-same-length
 same-length c = search needs
 
 returns-2 : tie.Need-returns-2
 unfolding planes
-returns-2 c = passed _ _ _ _ _ _ _ (c .before .before .before .before .before .before .lengths .ensures) (c .before .before .before .before .before .if1 .left)
-    (c .before .before .before .planes .ensures ∙ (λ k. planesCall (c .before .before .before .before .describe .ensures k)))
-    (c .before .put-planes .ensures .0) (c .before .put-planes .ensures .1)
+returns-2 c =
+    let at-planes = c .before .before .before in
+    let at-describe = at-planes .before in
+    let at-test = at-describe .before in
+    let at-lengths = at-test .before in
+    passed _ _ _ _ _ _ _ (at-lengths .lengths .ensures) (at-test .if1 .left)
+    (at-planes .planes .ensures ∙ (λ k. planesCall (at-describe .describe .ensures k))) (c .before .put-planes .ensures .0)
+    (c .before .put-planes .ensures .1)
 
 pub gyroid-planes-spec : {M : Type 1} → statement M
 gyroid-planes-spec =

@@ -19,15 +19,22 @@ world-at-requires : tie.Need-world-at-requires
 world-at-requires c κs = holds ((sized _ _ _ _ _ (c .before .before .lengths .ensures) (c .before .if1 .left)) .argument)
 
 put-enclosure-requires : tie.Need-put-enclosure-requires
-put-enclosure-requires c κs = (sized _ _ _ _ _ (c .before .before .before .before .before .lengths .ensures) (c .before .before .before .before .if1 .left)) .room
+put-enclosure-requires c κs =
+    (sized _ _ _ _ _ (c .before .before .before .before .before .lengths .ensures) (c .before .before .before .before .if1 .left)) .room
 
 same-length : tie.Need-same-length
 same-length c = search needs
 
 returns-2 : tie.Need-returns-2
 unfolding residual
-returns-2 c = passed _ _ _ _ _ _ _ (c .before .before .before .before .before .before .before .before .lengths .ensures) (c .before .before .before .before .before .before .before .if1 .left)
-    (c .before .before .before .before .residual .ensures .0 ∙ (λ k. residualCall (c .before .before .before .before .before .before .describe .ensures k) (c .before .before .before .before .before .world-at .ensures k)))
+returns-2 c =
+    let at-residual = c .before .before .before .before in
+    let at-world = at-residual .before in
+    let at-describe = at-world .before in
+    let at-test = at-describe .before in
+    let at-lengths = at-test .before in
+    passed _ _ _ _ _ _ _ (at-lengths .lengths .ensures) (at-test .if1 .left)
+    (at-residual .residual .ensures .0 ∙ (λ k. residualCall (at-describe .describe .ensures k) (at-world .world-at .ensures k)))
     (c .before .before .put-enclosure .ensures .0) (c .before .before .put-enclosure .ensures .1)
 
 pub gyroid-residual-spec : {M : Type 1} → statement M

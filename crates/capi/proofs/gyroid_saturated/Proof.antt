@@ -23,9 +23,14 @@ same-length c = search needs
 
 returns-2 : tie.Need-returns-2
 unfolding saturated
-returns-2 c = passed _ _ _ _ _ _ _ (c .before .before .before .before .before .before .lengths .ensures) (c .before .before .before .before .before .if1 .left)
-    (ap (each bit) (c .before .before .before .saturated .ensures ∙ (λ k. saturatedCall (c .before .before .before .before .describe .ensures k))))
-    (c .before .put-truth .ensures .0) (c .before .put-truth .ensures .1)
+returns-2 c =
+    let at-saturated = c .before .before .before in
+    let at-describe = at-saturated .before in
+    let at-test = at-describe .before in
+    let at-lengths = at-test .before in
+    passed _ _ _ _ _ _ _ (at-lengths .lengths .ensures) (at-test .if1 .left)
+    (ap (each bit) (at-saturated .saturated .ensures ∙ (λ k. saturatedCall (at-describe .describe .ensures k)))) (c .before .put-truth .ensures .0)
+    (c .before .put-truth .ensures .1)
 
 pub gyroid-saturated-spec : {M : Type 1} → statement M
 gyroid-saturated-spec =

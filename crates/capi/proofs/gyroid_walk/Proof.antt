@@ -75,7 +75,8 @@ returns-2 c =
     let s = e .before .before .before in
     passed (s .args .description .now) (s .args .bounds .now) (s .args .depth) (s .args .table .now)
     (e .before .lengths .ensures) (e .if1 .left) (s .fits .depth)
-    (h .before .before .describe .ensures) (h .before .whole-point .ensures) (h .whole-point2 .ensures) (w .walk .ensures .0) (w .walk .ensures .1 .0) (w .walk .ensures .1 .1)
+    (h .before .before .describe .ensures) (h .before .whole-point .ensures) (h .whole-point2 .ensures) (w .walk .ensures .0) (w .walk .ensures .1 .0)
+    (w .walk .ensures .1 .1)
 
 pub gyroid-walk-spec : {M : Type 1} → statement M
 gyroid-walk-spec = tie.close (tie.spec (λ _ _. tt) returns describe-requires whole-point-requires whole-point-requires-2 (λ _ _. tt) same-length returns-2)

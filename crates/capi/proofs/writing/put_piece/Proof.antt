@@ -28,7 +28,9 @@ same-length : tie.Need-same-length
 same-length c = search needs
 
 returns-2 : tie.Need-returns-2
-returns-2 c = values _ _ _ _ _ (ap (λ a. each pos (levelPieceSaid a)) (c .before .before .answer2 .given .1)) (set-small (c .before .before .before .before .args .out .now) _ (c .piece-number .ensures) (piece-fits (c .before .before .answer2 .given .0 .0)))
+returns-2 c =
+    values _ _ _ _ _ (ap (λ a. each pos (levelPieceSaid a)) (c .before .before .answer2 .given .1))
+    (set-small (c .before .before .before .before .args .out .now) _ (c .piece-number .ensures) (piece-fits (c .before .before .answer2 .given .0 .0)))
 
 returns-3 : tie.Need-returns-3
 returns-3 c = nothing _ _ (ap (λ a. each pos (levelPieceSaid a)) (c .enum-told .given .1))

@@ -41,8 +41,10 @@ same-length c = search needs
 returns-2 : tie.Need-returns-2
 returns-2 c =
     let given = c .before .answer2 .given .0 in
-    values _ _ _ _ _ (ap planesSaid (c .before .answer2 .given .1)) (set-three (c .before .before .before .args .out .now) (pos (given .0)) (given .1 .0) (given .1 .1 .0)
-    (axis-fits (subst AxisBelow (c .before .answer2 .given .1) (c .before .before .before .pre .1))) (record { sfits = c .known-told2 .given .1 .0 .1 }) (record { sfits = c .known-told2 .given .1 .1 .0 .1 }))
+    values _ _ _ _ _ (ap planesSaid (c .before .answer2 .given .1))
+    (set-three (c .before .before .before .args .out .now) (pos (given .0)) (given .1 .0) (given .1 .1 .0)
+    (axis-fits (subst AxisBelow (c .before .answer2 .given .1) (c .before .before .before .pre .1))) (record { sfits = c .known-told2 .given .1 .0 .1 })
+    (record { sfits = c .known-told2 .given .1 .1 .0 .1 }))
 
 returns-3 : tie.Need-returns-3
 returns-3 c = nothing _ _ (ap planesSaid (c .enum-told .given .1))
@@ -50,4 +52,5 @@ returns-3 c = nothing _ _ (ap planesSaid (c .enum-told .given .1))
 pub put-planes-spec : {M : Type 1} → statement M
 put-planes-spec =
     tie.close
-    (tie.spec enum-known-answer enum-known-answer-2 cast-out slice-set-from-out slice-set-from-from slice-set-from-to enum-told returns same-length returns-2 returns-3)
+    (tie.spec enum-known-answer enum-known-answer-2 cast-out slice-set-from-out slice-set-from-from slice-set-from-to enum-told returns same-length
+    returns-2 returns-3)

@@ -33,8 +33,10 @@ same-length c = search needs
 returns-2 : tie.Need-returns-2
 returns-2 c =
     let bounds = c .before .before .before .before .answer2 .given .0 .0 in
-    values _ _ _ _ _ (ap rangeSaid (c .before .before .before .before .answer2 .given .1)) (set-three (c .before .before .before .before .before .before .args .out .now) (bounds .low) (bounds .high) (bounds .over)
-    (record { sfits = c .before .before .struct-told .given .0 .1 }) (record { sfits = c .before .struct-told2 .given .1 .0 .1 }) (record { sfits = c .struct-told3 .given .1 .1 .0 .1 }))
+    values _ _ _ _ _ (ap rangeSaid (c .before .before .before .before .answer2 .given .1))
+    (set-three (c .before .before .before .before .before .before .args .out .now) (bounds .low) (bounds .high) (bounds .over)
+    (record { sfits = c .before .before .struct-told .given .0 .1 }) (record { sfits = c .before .struct-told2 .given .1 .0 .1 })
+    (record { sfits = c .struct-told3 .given .1 .1 .0 .1 }))
 
 pub put-range-spec : {M : Type 1} → statement M
 put-range-spec =

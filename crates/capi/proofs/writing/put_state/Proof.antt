@@ -25,7 +25,9 @@ same-length : tie.Need-same-length
 same-length c = search needs
 
 returns-2 : tie.Need-returns-2
-returns-2 c = values _ _ _ _ _ (ap (λ a. each pos (stateSaid a)) (c .before .before .answer2 .given .1)) (set-small (c .before .before .before .before .args .out .now) _ (c .state-number .ensures) (state-fits (c .before .before .answer2 .given .0 .0)))
+returns-2 c =
+    values _ _ _ _ _ (ap (λ a. each pos (stateSaid a)) (c .before .before .answer2 .given .1))
+    (set-small (c .before .before .before .before .args .out .now) _ (c .state-number .ensures) (state-fits (c .before .before .answer2 .given .0 .0)))
 
 pub put-state-spec : {M : Type 1} → statement M
 put-state-spec =

@@ -66,4 +66,5 @@ returns c = six (c .args .out .now) (c .args .at) (c .args .a .lo) (c .args .a .
 pub put-three-spec : {M : Type 1} → statement M
 put-three-spec =
     tie.close
-    (tie.spec mul-out slice-write-out add-out mul-out-2 slice-write-out-2 add-out-2 mul-out-3 slice-write-out-3 add-out-3 mul-out-4 slice-write-out-4 add-out-4 mul-out-5 slice-write-out-5 add-out-5 mul-out-6 slice-write-out-6 same-length returns)
+    (tie.spec mul-out slice-write-out add-out mul-out-2 slice-write-out-2 add-out-2 mul-out-3 slice-write-out-3 add-out-3 mul-out-4 slice-write-out-4
+    add-out-4 mul-out-5 slice-write-out-5 add-out-5 mul-out-6 slice-write-out-6 same-length returns)

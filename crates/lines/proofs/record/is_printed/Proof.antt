@@ -35,4 +35,5 @@ returns-3 c = search needs
 pub is-printed-spec : {M : Type 1} → statement M
 is-printed-spec =
     tie.close
-    (tie.spec returns returns-2 slice-aggregate-cells cells-requires array-share-prefix-out slice-aggregate-is-same slice-aggregate-is-same-2 is-same-requires returns-3)
+    (tie.spec returns returns-2 slice-aggregate-cells cells-requires array-share-prefix-out slice-aggregate-is-same slice-aggregate-is-same-2
+    is-same-requires returns-3)

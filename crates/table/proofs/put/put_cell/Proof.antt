@@ -39,7 +39,8 @@ returns c =
     let state = lows .before .before .before .before in
     let next = state .before .before .before .before in
     let a = next .before .before .before .args in
-    cell-stored (a .t .now) (32 * a .slot) (a .next) (a .state) (a .b) (next .put-u32 .ensures) (state .put-u322 .ensures) (lows .put-corner .ensures) (highs .put-corner2 .ensures)
+    cell-stored (a .t .now) (32 * a .slot) (a .next) (a .state) (a .b) (next .put-u32 .ensures) (state .put-u322 .ensures) (lows .put-corner .ensures)
+    (highs .put-corner2 .ensures)
 
 pub put-cell-spec : {M : Type 1} → statement M
 put-cell-spec =

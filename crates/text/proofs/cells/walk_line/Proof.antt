@@ -28,8 +28,11 @@ returns c =
     let lows = c .before .before .before .before .before .before .three-from .ensures in
     let highs = c .before .before .before .before .before .three-from2 .ensures in
     let depth = entry (start .args .t1) 16 (c .before .before .before .before .walk-arg .given) in
-    let w = c .before .before .walk .ensures in
-    (w .0 ∙ (λ k. walkNumber (described k) (lows k) (highs k) (depth k) (length (start .args .table .now))), w .1 .0 ∙ (λ k. walkTable (described k) (lows k) (highs k) (depth k) (start .args .table .now)))
+    let w = c .before .before .walk .ensures in (
+      w .0 ∙ (λ k. walkNumber (described k) (lows k) (highs k) (depth k) (length (start .args .table .now))),
+      w .1 .0
+          ∙ (λ k. walkTable (described k) (lows k) (highs k) (depth k) (start .args .table .now)),
+    )
 
 pub walk-line-spec : {M : Type 1} → statement M
 walk-line-spec =

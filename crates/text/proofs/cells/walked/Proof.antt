@@ -8,7 +8,9 @@ slice-aggregate-walk-line : tie.Need-slice-aggregate-walk-line
 slice-aggregate-walk-line c = search needs
 
 returns : tie.Need-returns
-returns c = printed (c .before .before .before .before .before .before .args .out .now) (text-refused _ fresh (c .before .before .before .before .walk-line .ensures .0) (c .before .before .if1 .taken)) (c .put-refused .ensures)
+returns c =
+    let w = c .before .before .before .before in
+    printed (w .before .before .args .out .now) (text-refused _ fresh (w .walk-line .ensures .0) (c .before .before .if1 .taken)) (c .put-refused .ensures)
 
 put-listing-requires : tie.Need-put-listing-requires
 put-listing-requires c κs =
@@ -17,8 +19,9 @@ put-listing-requires c κs =
 
 returns-2 : tie.Need-returns-2
 returns-2 c =
-    let w = c .before .before .before .before .before .walk-line .ensures in
-    printed (c .before .before .before .before .before .before .before .args .out .now) (text-listed _ fresh (w .0) (c .before .before .before .if1 .left) (w .1)) (c .put-listing .ensures)
+    let w = c .before .before .before .before .before in
+    let e = w .walk-line .ensures in
+    printed (w .before .before .args .out .now) (text-listed _ fresh (e .0) (c .before .before .before .if1 .left) (e .1)) (c .put-listing .ensures)
 
 pub walked-spec : {M : Type 1} → statement M
 walked-spec =

@@ -61,8 +61,10 @@ loop-less c = omega arith
 
 loop-again : tie.Need-loop-again Inv-loop μ-loop
 loop-again c =
-    let i = c .before .before .before .before .loop .inv in
-    (i .0 ∙ digits-step _ _ _ _ (c .before .before .byte-at .ensures .0) _ (c .before .before .before .loop-test .taken) (digit c), room-step _ _ _ (c .before .before .before .loop-test .taken) (digit-range _ (digit c) .1) (i .1))
+    let i = c .before .before .before .before .loop .inv in (
+      i .0 ∙ digits-step _ _ _ _ (c .before .before .byte-at .ensures .0) _ (c .before .before .before .loop-test .taken) (digit c),
+      room-step _ _ _ (c .before .before .before .loop-test .taken) (digit-range _ (digit c) .1) (i .1),
+    )
 
 returns-2 : tie.Need-returns-2 Inv-loop μ-loop
 returns-2 c =

@@ -29,7 +29,8 @@ byte-at-requires c κs = search needs
 
 -- the minus stands within the text
 inside : (c : tie.Then1) → c .before .before .before .args .i < length (c .before .before .before .args .t .now)
-inside c = byte-inside (c .before .before .before .args .t .now) (c .before .before .before .args .i) (omega (arith, c .before .byte-at .ensures .0, c .if1 .taken))
+inside c =
+    byte-inside (c .before .before .before .args .t .now) (c .before .before .before .args .i) (omega (arith, c .before .byte-at .ensures .0, c .if1 .taken))
 
 add-some-digits : tie.Need-add-some-digits
 add-some-digits c = let h = inside c in search needs
@@ -62,4 +63,5 @@ returns-2 c =
 pub number-at-spec : {M : Type 1} → statement M
 number-at-spec =
     tie.close
-    (tie.spec byte-at-requires add-some-digits add-digits-at digits-at-requires some-digits-requires returns digits-at-requires-2 some-digits-requires-2 returns-2)
+    (tie.spec byte-at-requires add-some-digits add-digits-at digits-at-requires some-digits-requires returns digits-at-requires-2
+    some-digits-requires-2 returns-2)

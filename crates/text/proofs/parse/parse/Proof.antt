@@ -41,7 +41,9 @@ returns : tie.Need-returns Inv-loop μ-loop
 returns c =
     let l = c .before .before .before .before .before in
     c .refused .ensures
-    ∙ sym (l .loop .inv .2 ∙ line-no-number _ _ _ _ (c .before .before .before .before .loop-test .taken) (c .before .before .before .number-at .ensures) (c .before .enum-told .given .1))
+    ∙ sym (l .loop .inv .2
+    ∙ line-no-number _ _ _ _ (c .before .before .before .before .loop-test .taken) (c .before .before .before .number-at .ensures)
+    (c .before .enum-told .given .1))
 
 byte-at-requires : tie.Need-byte-at-requires Inv-loop μ-loop
 byte-at-requires c κs = search needs
@@ -62,7 +64,9 @@ returns-2 c =
     let n = v .before .before in
     let l = n .before .before in
     c .refused2 .ensures
-    ∙ sym (l .loop .inv .2 ∙ line-no-separator _ _ _ _ (n .before .loop-test .taken) (n .number-at .ensures) (v .value .given .1) (b .byte-at .ensures .0) (c .before .before .separator .ensures) (c .before .if1 .taken))
+    ∙ sym (l .loop .inv .2
+    ∙ line-no-separator _ _ _ _ (n .before .loop-test .taken) (n .number-at .ensures) (v .value .given .1) (b .byte-at .ensures .0)
+    (c .before .before .separator .ensures) (c .before .if1 .taken))
 
 mul-numbers : tie.Need-mul-numbers Inv-loop μ-loop
 mul-numbers c = search needs
@@ -76,7 +80,8 @@ add-at c =
     let next = b .before .before .value .given .0 .1 .0 in
     let l = b .before .before .before .before .before .before in
     let t = l .before .before .args .input .now in
-    let h : next < length t = byte-inside t next (omega (arith, c .if1 .left, b .byte-at .ensures .0, separator-above (16 - l .loop .k) (c .before .separator .ensures))) in
+    let h : next < length t = byte-inside t next
+    (omega (arith, c .if1 .left, b .byte-at .ensures .0, separator-above (16 - l .loop .k) (c .before .separator .ensures))) in
     search needs
 
 add-k : tie.Need-add-k Inv-loop μ-loop
@@ -95,8 +100,10 @@ loop-again c =
       search needs,
       simp length-set (l .loop .inv .1),
       l .loop .inv .2
-          ∙ line-step _ _ _ _ (n .before .loop-test .taken) (n .number-at .ensures) (v .value .given .1) (b .byte-at .ensures .0) (c .before .separator .ensures) (c .if1 .left)
-          ∙ ap (λ (ns : List ℤ). lineFrom (17 - (l .loop .k + 1)) ns (l .before .before .args .input .now) (v .value .given .0 .1 .0 + 1)) (stored (l .loop .numbers) (l .loop .k) x (omega (arith, n .before .loop-test .taken, l .loop .inv .1))),
+          ∙ line-step _ _ _ _ (n .before .loop-test .taken) (n .number-at .ensures) (v .value .given .1) (b .byte-at .ensures .0)
+          (c .before .separator .ensures) (c .if1 .left)
+          ∙ ap (λ (ns : List ℤ). lineFrom (17 - (l .loop .k + 1)) ns (l .before .before .args .input .now) (v .value .given .0 .1 .0 + 1))
+          (stored (l .loop .numbers) (l .loop .k) x (omega (arith, n .before .loop-test .taken, l .loop .inv .1))),
     )
 
 refused-requires-3 : tie.Need-refused-requires-3 Inv-loop μ-loop
@@ -111,9 +118,11 @@ returns-4 : tie.Need-returns-4 Inv-loop μ-loop
 returns-4 c =
     let l = c .before .before in
     sym (l .loop .inv .2 ∙ line-whole _ _ _ _ (c .before .loop-test .left) (c .if2 .left)
-    ∙ ap (λ (ns : List ℤ). record { ok = true; numbers = ns }) (take-all (l .loop .k) (l .loop .numbers) (omega (arith, l .loop .inv .1, c .before .loop-test .left))))
+    ∙ ap (λ (ns : List ℤ). record { ok = true; numbers = ns })
+    (take-all (l .loop .k) (l .loop .numbers) (omega (arith, l .loop .inv .1, c .before .loop-test .left))))
 
 pub parse-spec : {M : Type 1} → statement M
 parse-spec =
     tie.close
-    (tie.spec Inv-loop μ-loop loop-holds number-at-requires enum-known-value enum-told refused-requires returns byte-at-requires sub-separator separator-requires refused-requires-2 returns-2 mul-numbers array-set-from-numbers add-at add-k loop-less loop-again refused-requires-3 returns-3 returns-4)
+    (tie.spec Inv-loop μ-loop loop-holds number-at-requires enum-known-value enum-told refused-requires returns byte-at-requires sub-separator
+    separator-requires refused-requires-2 returns-2 mul-numbers array-set-from-numbers add-at add-k loop-less loop-again refused-requires-3 returns-3 returns-4)

@@ -15,7 +15,8 @@ use Rattle.text.proofs.parse.some_digits.Tie as tie
 none : (minus : Bool) (from : ℕ) (d : Digits) → d .next ≡ from → Nothing ≡ someDigits minus from d
 none minus from d e = rw (eq-eqb (d .next) from e)
 
-some : (minus : Bool) (from : ℕ) (d : Digits) {w z : ℤ} → (d .next ≡ from → ⊥) → w ≡ z → z ≡ withMinus minus (d .value) → Found w (d .next) ≡ someDigits minus from d
+some : (minus : Bool) (from : ℕ) (d : Digits) {w z : ℤ} → (d .next ≡ from → ⊥) → w ≡ z → z ≡ withMinus minus (d .value)
+    → Found w (d .next) ≡ someDigits minus from d
 some minus from d n e f = rw (ne-eqb (d .next) from n) (ap (λ (x : ℤ). Found x (d .next)) (e ∙ f))
 
 returns : tie.Need-returns

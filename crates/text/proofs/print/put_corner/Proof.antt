@@ -1,53 +1,82 @@
--- `text::print::put_corner` meets its contract. Assumes nothing.
-use Prim.Native.Nat.{_+_, _*_}
+-- Three coordinates, one behind the other: each has room, since all three have. Assumes nothing.
+use mathlib.Core.Path.{_≡_}
+use mathlib.Core.List.{List}
+use Prim.Native.Nat.{ℕ, _+_, _*_}
+use lib.ListN.{length}
 use Rattle.table.specs.Read.{i32At}
 use native.Mathlib.Omega.{arith}
+use Rattle.text.specs.Appended.{cornerAt}
+use Rattle.text.specs.Decimal.{signedDecimal}
 use Rattle.text.proofs.AppendLaws.{as-appended, then-appended}
 use Rattle.text.proofs.ListingLaws.{corner-is, length-corner}
 use borrow.Author.Needs.{needs}
 use Rattle.text.proofs.print.put_corner.Statement.{statement}
 use Rattle.text.proofs.print.put_corner.Tie as tie
 
+-- ---- the way back from a coordinate that is put to the one before it
+abbrev start : tie.After-put-coordinate → tie.Start
+start c = c .before .before .before .before
+
+abbrev first : tie.After-put-coordinate2 → tie.After-put-coordinate
+first c = c .before .before .before .before
+
+-- ---- how long the three are, with a space before each
+abbrev digits : List ℕ → ℕ → ℕ
+digits t i = length (signedDecimal (i32At t i))
+
+length-at : (t : List ℕ) (slot place : ℕ)
+    → length (cornerAt t slot place) ≡ digits t (32 * slot + place) + digits t (32 * slot + (place + 4)) + digits t (32 * slot + (place + 8)) + 3
+length-at t slot place = length-corner (i32At t (32 * slot + place)) (i32At t (32 * slot + (place + 4))) (i32At t (32 * slot + (place + 8)))
+
+-- ---- the needs
 put-coordinate-requires : tie.Need-put-coordinate-requires
 put-coordinate-requires c κs =
-    let start = c .before .before .before in
-    let t = start .args .table .now in
-    let s = start .args .slot in
-    let p = start .args .place in
-    let n = length-corner (i32At t (32 * s + p)) (i32At t (32 * s + (p + 4))) (i32At t (32 * s + (p + 8))) in
-    (start .pre .0, (omega (arith, start .pre .1 .0), omega (arith, start .pre .1 .1, n)))
+    let s = c .before .before .before in
+    let n = length-at (s .args .table .now) (s .args .slot) (s .args .place) in
+    (s .pre .0, (omega (arith, s .pre .1 .0), omega (arith, s .pre .1 .1, n)))
 
 add-put-coordinate : tie.Need-add-put-coordinate
 add-put-coordinate c = search needs
 
 put-coordinate-requires-2 : tie.Need-put-coordinate-requires-2
 put-coordinate-requires-2 c κs =
-    let start = c .before .before .before .before .before .before .before in
-    let t = start .args .table .now in
-    let s = start .args .slot in
-    let p = start .args .place in
-    let n = length-corner (i32At t (32 * s + p)) (i32At t (32 * s + (p + 4))) (i32At t (32 * s + (p + 8))) in
-    (start .pre .0, (omega (arith, start .pre .1 .0), omega (arith, start .pre .1 .1, n, c .before .before .before .put-coordinate .ensures .next-is, c .before .before .before .put-coordinate .kept .1 .1 .1 .0)))
+    let p1 = c .before .before .before in
+    let s = start p1 in
+    let n = length-at (s .args .table .now) (s .args .slot) (s .args .place) in
+    (s .pre .0, (omega (arith, s .pre .1 .0), omega (arith, s .pre .1 .1, n, p1 .put-coordinate .ensures .next-is, p1 .put-coordinate .kept .1 .1 .1 .0)))
 
 add-put-coordinate-2 : tie.Need-add-put-coordinate-2
 add-put-coordinate-2 c = search needs
 
 put-coordinate-requires-3 : tie.Need-put-coordinate-requires-3
 put-coordinate-requires-3 c κs =
-    let start = c .before .before .before .before .before .before .before .before .before .before .before in
-    let t = start .args .table .now in
-    let s = start .args .slot in
-    let p = start .args .place in
-    let n = length-corner (i32At t (32 * s + p)) (i32At t (32 * s + (p + 4))) (i32At t (32 * s + (p + 8))) in
-    (start .pre .0, (omega (arith, start .pre .1 .0), omega (arith, start .pre .1 .1, n, c .before .before .before .put-coordinate2 .ensures .next-is, c .before .before .before .put-coordinate2 .kept .1 .1 .1 .0, c .before .before .before .before .before .before .before .put-coordinate .ensures .next-is, c .before .before .before .before .before .before .before .put-coordinate .kept .1 .1 .1 .0)))
+    let p2 = c .before .before .before in
+    let p1 = first p2 in
+    let s = start p1 in
+    let n = length-at (s .args .table .now) (s .args .slot) (s .args .place) in (
+      s .pre .0,
+      (
+        omega (arith, s .pre .1 .0),
+        omega (
+          arith,
+          s .pre .1 .1,
+          n,
+          p1 .put-coordinate .ensures .next-is,
+          p1 .put-coordinate .kept .1 .1 .1 .0,
+          p2 .put-coordinate2 .ensures .next-is,
+          p2 .put-coordinate2 .kept .1 .1 .1 .0,
+        ),
+      ),
+    )
 
 same-length : tie.Need-same-length
 same-length c = search needs
 
 returns : tie.Need-returns
 returns c =
-    as-appended (corner-is _ _ _)
-    (then-appended _ _ (then-appended _ _ (c .before .before .before .before .before .before .before .before .before .before .put-coordinate .ensures) (c .before .before .before .before .before .before .put-coordinate2 .ensures)) (c .before .before .put-coordinate3 .ensures))
+    let p2 = c .before .before .before .before .before .before in
+    let two = then-appended _ _ (first p2 .put-coordinate .ensures) (p2 .put-coordinate2 .ensures) in
+    as-appended (corner-is _ _ _) (then-appended _ _ two (c .before .before .put-coordinate3 .ensures))
 
 pub put-corner-spec : {M : Type 1} → statement M
 put-corner-spec =

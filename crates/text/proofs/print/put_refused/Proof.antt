@@ -38,10 +38,13 @@ put-byte-requires c κs =
 returns : tie.Need-returns
 unfolding refusedText
 returns c =
-    let a = then-appended _ _ (then-appended _ _ (c .before .before .before .before .put-text .ensures) (c .before .before .put-spaced .ensures)) (c .put-byte .ensures) in
-    let start = c .before .before .before .before .before .before .before in
+    let word = c .before .before .before .before in
+    let start = word .before .before .before in
+    let n = start .args .n in
+    let a = then-appended _ _ (then-appended _ _ (word .put-text .ensures) (c .before .before .put-spaced .ensures)) (c .put-byte .ensures) in
     let end = a .next-is ∙ zero-add _ in
-    (a .written, (end, at-front (start .args .out .now) (refusedText (start .args .n)) (a .written) end (omega (arith, length-refused (start .args .n), few-digits 9 (start .args .n) (omega arith)))))
+    let few = few-digits 9 n (omega arith) in
+    (a .written, (end, at-front (start .args .out .now) (refusedText n) (a .written) end (omega (arith, length-refused n, few))))
 
 pub put-refused-spec : {M : Type 1} → statement M
 put-refused-spec =

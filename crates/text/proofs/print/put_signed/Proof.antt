@@ -41,7 +41,8 @@ put-decimal-requires c κs =
     let s = p .before .before .before in
     let start = s .before .before in
     let e = ap (λ (n : ℕ). length (decimal n)) (size-is (start .pre .0) (s .size .ensures)) in
-    omega (arith, e, start .pre .1, length-signed-below (start .args .x) (is-below (start .pre .0) (p .before .before .if1 .taken)), p .put-byte .ensures .next-is, p .put-byte .kept .0)
+    let n = length-signed-below (start .args .x) (is-below (start .pre .0) (p .before .before .if1 .taken)) in
+    omega (arith, e, start .pre .1, n, p .put-byte .ensures .next-is, p .put-byte .kept .0)
 
 same-length : tie.Need-same-length
 same-length c = search needs
@@ -51,8 +52,9 @@ returns c =
     let p = c .before .before .before .before .before .before in
     let s = p .before .before .before in
     let start = s .before .before in
+    let size = ap decimal (sym (size-is (start .pre .0) (s .size .ensures))) in
     as-appended (signed-below (start .args .x) (is-below (start .pre .0) (p .before .before .if1 .taken)))
-    (then-appended _ _ (p .put-byte .ensures) (as-appended (ap decimal (sym (size-is (start .pre .0) (s .size .ensures)))) (c .before .before .put-decimal .ensures)))
+    (then-appended _ _ (p .put-byte .ensures) (as-appended size (c .before .before .put-decimal .ensures)))
 
 put-decimal-requires-2 : tie.Need-put-decimal-requires-2
 put-decimal-requires-2 c κs =
@@ -68,7 +70,9 @@ returns-2 : tie.Need-returns-2
 returns-2 c =
     let s = c .before .before .before .before .before in
     let start = s .before .before in
-    as-appended (signed-above (start .args .x) (is-above (start .pre .0) (c .before .before .before .before .if1 .left)) ∙ ap decimal (sym (size-is (start .pre .0) (s .size .ensures)))) (c .before .before .put-decimal2 .ensures)
+    let size = ap decimal (sym (size-is (start .pre .0) (s .size .ensures))) in
+    let e = signed-above (start .args .x) (is-above (start .pre .0) (c .before .before .before .before .if1 .left)) in
+    as-appended (e ∙ size) (c .before .before .put-decimal2 .ensures)
 
 pub put-signed-spec : {M : Type 1} → statement M
 put-signed-spec =

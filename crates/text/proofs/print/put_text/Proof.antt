@@ -19,7 +19,8 @@ abbrev μ-loop : tie.MeasureT-loop
 μ-loop out₀ at text i₀ out i = length text - i
 
 -- one byte more of the text
-more : (out₀ : List ℕ) (at : ℕ) (text out : List ℕ) (i : ℕ) → i < length text → out ≡ sets out₀ at (take i text) → set out (at + i) (getD text i 0) ≡ sets out₀ at (take (i + 1) text)
+more : (out₀ : List ℕ) (at : ℕ) (text out : List ℕ) (i : ℕ) → i < length text → out ≡ sets out₀ at (take i text)
+    → set out (at + i) (getD text i 0) ≡ sets out₀ at (take (i + 1) text)
 more out₀ at text out i h e =
     sets-then out₀ at (take i text) (getD text i 0 ∷ []) {m = out} {j = at + i} e refl (omega (arith, length-take-le i text (omega arith)))
     ∙ ap (sets out₀ at) (sym (ap (λ (k : ℕ). take k text) (add-one i) ∙ take-suc text i 0 h))
@@ -47,7 +48,8 @@ loop-again c =
     let l = c .before .before in (
       omega arith,
       simp length-set (l .loop .inv .1),
-      more (l .before .args .out .now) (l .before .args .at) (l .before .args .text .now) (l .loop .out) (l .loop .i) (c .before .loop-test .taken) (l .loop .inv .2),
+      more (l .before .args .out .now) (l .before .args .at) (l .before .args .text .now) (l .loop .out) (l .loop .i) (c .before .loop-test .taken)
+          (l .loop .inv .2),
     )
 
 add-result : tie.Need-add-result Inv-loop μ-loop

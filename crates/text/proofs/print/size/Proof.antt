@@ -36,7 +36,9 @@ sub-result c = fits tt (less (c .before .pre))
 abbrev flipped : ℤ → ℤ
 flipped x = toZ w64 (ofZ w64 (pos 0 -ℤ toZ w64 (ofZ w64 x)))
 
-negated : (c : tie.Then1) → (T (nonNeg (flipped (c .before .args .x))) × Fits w64 (natAbs (flipped (c .before .args .x)))) × (natAbs (flipped (c .before .args .x)) ≡ natAbs (c .before .args .x))
+negated : (c : tie.Then1)
+    → (T (nonNeg (flipped (c .before .args .x))) × Fits w64 (natAbs (flipped (c .before .args .x))))
+    × (natAbs (flipped (c .before .args .x)) ≡ natAbs (c .before .args .x))
 negated c =
     let f = within-fits tt (c .before .pre) in
     below (c .before .args .x) (flipped (c .before .args .x)) (c .before .pre) (bit tt (less (c .before .pre)) .same) (plain ltZ f zero-fits (c .if1 .taken))

@@ -50,7 +50,9 @@ array-copy-out-shift-6 : tie.Need-array-copy-out-shift-6
 array-copy-out-shift-6 c = search needs
 
 shift-requires-6 : tie.Need-shift-requires-6
-shift-requires-6 c κs = within-bits 1048576 tt tt (c .before .before .before .before .before .before .before .before .before .before .before .pre .highs Z)
+shift-requires-6 c κs =
+    let start = c .before .before .before .before .before .before .before .before .before .before .before in
+    within-bits 1048576 tt tt (start .pre .highs Z)
 
 returns : tie.Need-returns
 unfolding boxOf

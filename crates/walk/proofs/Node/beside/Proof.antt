@@ -13,7 +13,8 @@ returns : tie.Need-returns
 returns c =
     let r = c .before .before .before .before .before in
     let s = r .before .before .before in
-    let p = beside-parts (s .args .g) (s .args .a) (s .args .self) (boxOf (s .args .b)) (s .pre .0) (s .pre .1 .1) (r .before .part-of .ensures) (r .renewed .ensures) in
+    let p = beside-parts (s .args .g) (s .args .a) (s .args .self) (boxOf (s .args .b)) (s .pre .0) (s .pre .1 .1) (r .before .part-of .ensures)
+    (r .renewed .ensures) in
     (refl, own-parts (s .args .g) (s .args .b) (r .renewed .result) (c .joined-state .result) (s .pre .1 .0) p (c .joined-state .ensures))
 
 pub beside-spec : {M : Type 1} → statement M
