@@ -1,20 +1,15 @@
 -- DEMAND 3: of an accepted description, a box of whole ticks within the limits with spans of at least 1, and a depth of 0 to 24, the bytes that the
 -- walk leaves say of the part what document 01 asks. Assumes nothing.
 use mathlib.Core.Path.{_≡_, refl, ap, _∙_, subst, subst⁻¹}
-use mathlib.Core.Bool.{Bool, true, false, cond, _&&_, _||_}
+use mathlib.Core.Bool.{Bool, true, cond, _||_}
 use mathlib.Core.Logic.{_⊎_, inl, inr, ⊎-elim}
 use mathlib.Core.List.{List, [], _∷_}
-use Prim.Native.Nat.{ℕ, _-_, _≤_, _<_}
+use Prim.Native.Nat.{ℕ, _≤_, _<_}
 use native.Mathlib.Omega.{arith}
 use native.Mathlib.Nat.{two-pow-succ, zero-add}
-use lib.Dec.{T}
-use lib.IntN.{ℤ, pos, negsuc}
+use lib.IntN.{ℤ}
 use lib.ListN.{length}
-use lib.Signed.{leZ}
 use borrow.Author.Tests.{eq-eqb}
-use Rattle.exact.specs.Within.{Within}
-use Rattle.exact.proofs.Size.{within-low, within-high}
-use Rattle.grade.specs.Grade.{tick, ticks}
 use Rattle.gyroid.specs.declared.Description.{Description}
 use Rattle.gyroid.specs.declared.State.{State}
 use Rattle.gyroid.specs.declared.State.the-variants.{Inside, Outside, Unsettled}
@@ -23,11 +18,9 @@ use Rattle.gyroid.specs.Leaf.{leaf}
 use Rattle.gyroid.specs.Residual.{stateNumber}
 use Rattle.gyroid.specs.Admitted.{Settles}
 use Rattle.gyroid.proofs.EnclosureLaws.{state-settles}
-use Rattle.tree.specs.declared.Axis.the-variants.{X, Y, Z}
 use Rattle.tree.specs.Box.{Box, Good, lows, highs, longest, oneCube, volume, holdsCube, holders}
 use Rattle.tree.specs.Tree.{Cell, leaves}
 use Rattle.tree.specs.Cells.{All, Stopped}
-use Rattle.tree.proofs.TickLaws.{good-ticks}
 use Rattle.tree.proofs.LongestLaws.{fair-longest}
 use Rattle.tree.proofs.VolumeLaws.{volume-small}
 use Rattle.tree.proofs.CountLaws.{box-count-leaves, leaves-le, leaves-least, leaves-small, box-count-small}
@@ -42,6 +35,7 @@ use Rattle.table.proofs.BoundLaws.{good-fits}
 use Rattle.table.proofs.ReadBack.{told}
 use Rattle.walk.specs.Walk.{stateAt, isSettled, settled, inside, cellsOf, evaluatedOf, solidOf, openOf, markOf, marksOf, tableOf, roomRefusal, roomTable}
 use Rattle.walk.specs.Demand.{Every, Pairwise, markBoxes, AllBelowZero, AllAboveZero, Undecided, Demand}
+use Rattle.walk.proofs.EndLaws.{lows-ticks, highs-ticks}
 use Rattle.walk.proofs.MarkLaws.{marks-leaves, mark-boxes-are, every, pairwise}
 
 -- ---- a state by its number
@@ -69,23 +63,6 @@ number-below : (s : State) → stateNumber s < 4294967296
 number-below Inside = omega arith
 number-below Outside = omega arith
 number-below Unsettled = omega arith
-
--- ---- the ends of a good box are ticks
-joint : (a b : Bool) → T a → T b → T (a && b)
-joint true b t u = u
-joint false b t u = t
-
-end-tick : {z : ℤ} → Within 1048576 z → T (tick z)
-end-tick {z} w = joint (leZ (negsuc 1048575) z) (leZ z (pos 1048576)) (within-low w .le) (within-high w .le)
-
-three : (x y z : ℤ) → Within 1048576 x → Within 1048576 y → Within 1048576 z → T (ticks (x ∷ y ∷ z ∷ []))
-three x y z p q r = joint (tick x && tick y) (tick z) (joint (tick x) (tick y) (end-tick p) (end-tick q)) (end-tick r)
-
-lows-ticks : (b : Box) → Good b → T (ticks (lows b))
-lows-ticks b g = let t = good-ticks b g in three (b .lx) (b .ly) (b .lz) (t .lows X) (t .lows Y) (t .lows Z)
-
-highs-ticks : (b : Box) → Good b → T (ticks (highs b))
-highs-ticks b g = let t = good-ticks b g in three (b .hx) (b .hy) (b .hz) (t .highs X) (t .highs Y) (t .highs Z)
 
 -- a box that is not settled stops only as one tick cube
 cube-stops : (s : State) (c : Bool) → s ≡ Unsettled → (isSettled s || c) ≡ true → c ≡ true

@@ -3,6 +3,7 @@ mod PartLaws
 mod StepLaws
 mod MarkLaws
 mod CallLaws
+pub mod EndLaws
 pub mod DemandLaws
 -- what demand 3 supposes is what no refusal leaves, both ways
 pub mod SupposedLaws
