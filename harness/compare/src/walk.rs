@@ -95,12 +95,15 @@ pub fn most_cells(request: &Request) -> u64 {
     cubes.min(1 << request.depth)
 }
 
+/// A description that document 01 refuses is not given to the original, whose fractions need not fit beyond the limits.
 pub fn answer(request: &Request) -> Answer {
     let mut table = unwritten(request.table);
-    let status = match (added::refusal(request), Leaf::new(&request.description)) {
-        (Some(number), _) => number,
-        (None, Some(leaf)) => fill(&leaf, &request.whole, request.depth, &mut table),
-        (None, None) => return Answer::Unavailable,
+    let status = match added::refusal(request) {
+        Some(number) => number,
+        None => match Leaf::new(&request.description) {
+            Some(leaf) => fill(&leaf, &request.whole, request.depth, &mut table),
+            None => return Answer::Unavailable,
+        },
     };
     Answer::Walked(Walked { status, table })
 }
@@ -149,6 +152,16 @@ mod tests {
         assert_eq!(asked(1, 95), Walked { status: 13, table: vec![0; 95] });
         assert_eq!(asked(0, 63), Walked { status: 13, table: vec![0; 63] });
         assert_eq!(asked(25, 63), Walked { status: 12, table: unwritten(63) });
+    }
+
+    /// A fraction of the stand-in overflows on this description: only what document 01 accepts is given to the original.
+    #[test]
+    fn a_description_beyond_the_limits_is_refused_before_the_original_sees_it() {
+        let line = format!("walk 1 0 1 0 {0} 0 {0} -{0} 0 0 1 1 0 0 0 0 0 0 0 0 0 1 1 1 0 64", i64::MAX);
+        let request: Request = line.parse().unwrap();
+        let made = std::panic::catch_unwind(|| Leaf::new(&request.description).is_some());
+        assert_eq!(made.is_err(), reference::AT_HAND);
+        assert_eq!(walked(&line), Walked { status: 1, table: unwritten(64) });
     }
 
     #[test]
