@@ -1,6 +1,7 @@
 //! Finds the static library and links it. It stands in target/staticlib of the project, or in the directory that
 //! GYROID_ARCHIVE_DIR names. An archive that is there is used as it is; the project's own is made where it is missing.
 
+use std::os::unix::process::parent_id;
 use std::path::{Path, PathBuf};
 use std::process::Command;
 use std::time::SystemTime;
@@ -43,9 +44,27 @@ fn warn_of_newer_sources(root: &Path, archive: &Path) {
     }
 }
 
+/// The directory that GYROID_ARCHIVE_DIR names. A relative one is read from where cargo was started, which is the working directory of
+/// cargo, this program's parent; this program itself runs in the package's directory.
+fn named(directory: PathBuf) -> Result<PathBuf, String> {
+    if directory.is_absolute() {
+        return Ok(directory);
+    }
+    // Asked again from another place, the same name is another directory.
+    println!("cargo::rerun-if-env-changed=PWD");
+    match fs::read_link(format!("/proc/{}/cwd", parent_id())) {
+        Ok(started) => Ok(started.join(directory)),
+        Err(error) => Err(format!(
+            "GYROID_ARCHIVE_DIR is the relative {}, and it cannot be told where cargo was started: {error}. \
+             Name the directory from the root",
+            directory.display()
+        )),
+    }
+}
+
 fn directory() -> Result<PathBuf, String> {
-    if let Some(named) = env::var_os("GYROID_ARCHIVE_DIR") {
-        return Ok(named.into());
+    if let Some(directory) = env::var_os("GYROID_ARCHIVE_DIR") {
+        return named(directory.into());
     }
     let root = Path::new(env!("CARGO_MANIFEST_DIR")).join("../..");
     let directory = root.join("target/staticlib");
