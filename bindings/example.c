@@ -1,4 +1,5 @@
-/* Asks the mark of one box and the residual behind it, and walks a box that is not settled. From the project's root:
+/* Asks the mark of one box and the residual behind it, and walks a box that is not settled, in the float state that the proofs speak of.
+ * From the project's root:
  *
  *   rt staticlib capi
  *   cc -I bindings bindings/example.c target/staticlib/libcapi.a -o example && ./example
@@ -18,7 +19,7 @@ static int refused(uint32_t status) {
     return 1;
 }
 
-int main(void) {
+static int ask(void) {
     /* A network of period 10 mm at the constant level 2, in the part frame. */
     const int64_t description[GYROID_DESCRIPTION] = {10240, 0, 0, 0, 0, 0, 0, 0, 0, 2048, 0, 1, 0, 0, 0, 0, 0, 0};
     /* The lower half of a millimetre cube. */
@@ -51,4 +52,11 @@ int main(void) {
                (int32_t)number(cell + 20));
     }
     return 0;
+}
+
+int main(void) {
+    const uint32_t found = gyroid_float_state_enter();
+    const int status = ask();
+    gyroid_float_state_leave(found);
+    return status;
 }

@@ -1,12 +1,35 @@
-/* The seventeen calls of the static library libcapi.a, which `rt staticlib capi` makes in target/staticlib.
+/* The seventeen calls of the static library libcapi.a, which `rt staticlib capi` makes in target/staticlib, for x86-64.
+ *
+ * Before you call
+ *
+ * The proofs speak of IEEE 754 as a processor starts: round to nearest, denormals kept, no exception traps. A thread in another float
+ * state gets other numbers, and with them other marks. It need not be your own code that sets another state: gcc links code that takes
+ * denormals for zero into a program built with -ffast-math, and up to version 12 also into a shared object built so, which is enough to
+ * be loaded. So call in the default state:
+ *
+ *   uint32_t found = gyroid_float_state_enter();
+ *   ... calls ...
+ *   gyroid_float_state_leave(found);
+ *
+ * gyroid_float_state_is_default() says whether there is need. The state is the thread's; a thread starts with that of its maker.
+ *
+ * Lent slices
  *
  * Every slice is a pointer and a number of entries. The caller lends the slices for the time of the call; none is kept, nothing is
  * allocated and there is no state, so calls from several threads do not meet.
  *
+ *   length     A pointer must be good for the number of entries beside it: the library cannot test that. With the number 0 it is not
+ *              looked at, and may be null. A null pointer with another number is undefined, as any other bad pointer is.
+ *   overlap    `out`, and the table of a walk, must not overlap another slice of the call. Slices that are only read may.
+ *   alignment  The library needs none: its code reads and writes entries at any address, and is tested at odd ones. The proofs speak of
+ *              entries where C has them, int64_t and double at multiples of 8, and C itself asks for that. A table is bytes.
+ *   stack      A walk of depth 24 takes 42,048 bytes of stack, measured; no heap.
+ *
  * Every call answers a status:
  *
  *   GYROID_FOUND   `out` holds the call's values, from its first entry on
- *   1 to 14        a refusal, by document 01's number
+ *   1 to 13        a refusal, by document 01's number: GYROID_REFUSED_.. below. 14 never comes from the library: it is the program
+ *                  `cells`' own, for a text that is not its line
  *   GYROID_NONE    nothing found
  *   GYROID_LENGTH  a lent slice has the wrong length: an argument that is not of its length, or an `out` shorter than the call's
  *                  values. Tested before all else.
@@ -26,6 +49,10 @@
 #ifndef GYROID_H
 #define GYROID_H
 
+#if !defined(__x86_64__)
+#error "gyroid.h: the static library is for x86-64, and only the float state of x86-64 is known here"
+#endif
+
 #include <stddef.h>
 #include <stdint.h>
 
@@ -33,11 +60,66 @@
 extern "C" {
 #endif
 
+/* The version of this header and of the Rust crate beside it. */
+#define GYROID_VERSION "0.1.0"
+#define GYROID_VERSION_MAJOR 0
+#define GYROID_VERSION_MINOR 1
+#define GYROID_VERSION_PATCH 0
+
 enum { GYROID_FOUND = 0, GYROID_NONE = 100, GYROID_LENGTH = 101 };
+
+/* The refusals, by document 01's conditions. The first that holds wins, in document 01's order. 2 and 3 stand for several conditions,
+ * so their names are of one number. */
+enum {
+    GYROID_REFUSED_ENTRY = 1,    /* an entry outside its limits or kinds */
+    GYROID_REFUSED_PERIOD = 2,   /* a period not above 0 */
+    GYROID_REFUSED_ANCHORS = 2,  /* a linear level with from = to */
+    GYROID_REFUSED_SHEET = 3,    /* a sheet */
+    GYROID_REFUSED_DISTANCE = 3, /* a distance level */
+    GYROID_REFUSED_FRAME = 3,    /* a frame that is not the part frame */
+    GYROID_REFUSED_DIAGONAL = 4, /* a ramp whose anchors differ on other than one axis */
+    GYROID_REFUSED_RAMP = 5,     /* a ramp with an end outside -256 to 256, or with a slope above 1/10 */
+    GYROID_REFUSED_BOUNDS = 6,   /* gyroid_level_piece, gyroid_grade_range: a low above its high */
+    GYROID_REFUSED_RANGE_DISTANCE = 7, /* gyroid_grade_range: a distance level */
+    GYROID_REFUSED_RANGE_ANCHORS = 8,  /* gyroid_grade_range: a linear level with from = to */
+    GYROID_REFUSED_DOUBLE = 9,   /* a NaN, or a low above its high */
+    GYROID_REFUSED_FAR = 10,     /* an end or a point beyond 2^40 in size */
+    GYROID_REFUSED_SPAN = 11,    /* gyroid_walk: a span below 1 */
+    GYROID_REFUSED_DEPTH = 12,   /* gyroid_walk: a depth below 0 or above 24 */
+    GYROID_REFUSED_ROOM = 13     /* gyroid_walk: fewer slots than the cells and one more */
+};
+
 enum { GYROID_DESCRIPTION = 18 };
 enum { GYROID_START = 0, GYROID_RAMP = 1, GYROID_END = 2 };
 enum { GYROID_INSIDE = 1, GYROID_OUTSIDE = 2, GYROID_UNSETTLED = 3 };
 enum { GYROID_SLOT = 32 };
+
+/* The float state: MXCSR. As a processor starts it is 0x1F80: round to nearest, denormals kept, every exception masked, none flagged. */
+enum { GYROID_FLOAT_STATE_DEFAULT = 0x1F80, GYROID_FLOAT_STATE_FLAGS = 0x3F };
+
+/* The thread's state. */
+static inline uint32_t gyroid_float_state(void) {
+    uint32_t state;
+    __asm__ __volatile__("stmxcsr %0" : "=m"(state) : : "memory");
+    return state;
+}
+
+/* Makes a state that was found the thread's again, its flags too. */
+static inline void gyroid_float_state_leave(uint32_t found) {
+    __asm__ __volatile__("ldmxcsr %0" : : "m"(found) : "memory");
+}
+
+/* Sets the default state; the answer is the state that was found, for gyroid_float_state_leave. */
+static inline uint32_t gyroid_float_state_enter(void) {
+    const uint32_t found = gyroid_float_state();
+    gyroid_float_state_leave(GYROID_FLOAT_STATE_DEFAULT);
+    return found;
+}
+
+/* 1 where a call would compute in the default state, and 0 otherwise. Flags that stand change nothing, and do not count. */
+static inline int gyroid_float_state_is_default(void) {
+    return (gyroid_float_state() & ~(uint32_t)GYROID_FLOAT_STATE_FLAGS) == GYROID_FLOAT_STATE_DEFAULT;
+}
 
 /* The exact range of the level over `bounds` (6 entries). `out` (3): the numerators of the least and of the greatest level and their
  * denominator, in level counts and not reduced. It reads the level's entries alone, so it refuses by 1, 6, 7 and 8 only. Never
@@ -59,7 +141,8 @@ uint32_t gyroid_affine_jet(const int64_t *description, size_t description_length
                            double *out, size_t out_length);
 
 /* The gradient of g less the level and the Hessian of g over a `world` (6 entries) on which the level is `piece` (0 start, 1 ramp,
- * 2 end). `out` (24): the gradient's three intervals, then the Hessian's nine, row by row. A piece above 2 is refused by 1. */
+ * 2 end). `out` (24): the gradient's three intervals, then the Hessian's nine, row by row. A piece above 2 is refused by 1. None
+ * beyond the reduction: period 1, x = 1e12. */
 uint32_t gyroid_derivatives(const int64_t *description, size_t description_length, const double *world, size_t world_length,
                             uint32_t piece, double *out, size_t out_length);
 
@@ -76,7 +159,7 @@ uint32_t gyroid_box_state(const int64_t *description, size_t description_length,
                           int64_t *out, size_t out_length);
 
 /* g less the level's affine extension over a triangle; `corners` has 18 entries, each corner as a `world`. `out` (2): an interval,
- * which promises no enclosure: its widening is rounded to nearest. */
+ * which promises no enclosure: its widening is rounded to nearest. None beyond the reduction: period 1, x = 1e12. */
 uint32_t gyroid_facet_residual(const int64_t *description, size_t description_length, const double *corners, size_t corners_length,
                                double *out, size_t out_length);
 

@@ -35,11 +35,28 @@ fn truth(number: i64) -> bool {
     }
 }
 
+/// What a number of the library stands for.
+fn named<T: TryFrom<u32>>(number: i64) -> T {
+    let named = u32::try_from(number).ok().and_then(|number| T::try_from(number).ok());
+    named.unwrap_or_else(|| panic!("{number}, which the library never answers"))
+}
+
 fn jet_of(row: [f64; 8]) -> Jet {
     Jet { value: interval(&row, 0), gradient: triple(&row, 1) }
 }
 
 /// The exact range of the level over a box of whole ticks. It reads the description's level alone.
+///
+/// ```
+/// use gyroid_cells::{Bounds, Description, Range, grade_range};
+///
+/// // Over the first half of the ramp the level goes from −256 to 0 counts.
+/// let ramp = Description::linear(10240, [0; 3], [10240, 0, 0], -256, 256);
+/// let half = Bounds { low: [0; 3], high: [5120, 0, 0] };
+/// let range = grade_range(&ramp, half)?;
+/// assert_eq!(range, Range { low: -256 * 104857600, high: 0, denominator: 104857600 });
+/// # Ok::<(), gyroid_cells::Refusal>(())
+/// ```
 pub fn grade_range(description: &Description, bounds: Bounds) -> Result<Range, Refusal> {
     let found = on_slice(raw::gyroid_grade_range, description, &corners_of(bounds));
     let [low, high, denominator] = always(found)?;
@@ -47,27 +64,68 @@ pub fn grade_range(description: &Description, bounds: Bounds) -> Result<Range, R
 }
 
 /// The piece of the level that holds over a box of whole ticks, or `None` across an anchor plane.
+///
+/// ```
+/// use gyroid_cells::{Bounds, Description, Piece, level_piece};
+///
+/// let ramp = Description::linear(10240, [0; 3], [10240, 0, 0], -256, 256);
+/// let along = |low, high| level_piece(&ramp, Bounds { low: [low, 0, 0], high: [high, 0, 0] });
+/// assert_eq!(along(0, 10240), Ok(Some(Piece::Ramp)));
+/// assert_eq!(along(-5, 0), Ok(Some(Piece::Start)));
+/// assert_eq!(along(-1, 1), Ok(None));
+/// ```
 pub fn level_piece(description: &Description, bounds: Bounds) -> Result<Option<Piece>, Refusal> {
     let found = on_slice(raw::gyroid_level_piece, description, &corners_of(bounds))?;
-    Ok(found.map(|[piece]| match piece {
-        0 => Piece::Start,
-        1 => Piece::Ramp,
-        2 => Piece::End,
-        other => panic!("piece {other}, which the library never answers"),
-    }))
+    Ok(found.map(|[piece]| named(piece)))
 }
 
 /// g and its gradient over a box small enough to be a rounded point, or `None` where it is too wide for the reduction.
+///
+/// ```
+/// use gyroid_cells::{Description, Interval, jet};
+///
+/// let core = Description::constant(10240, 0);
+/// let origin = jet(&core, [Interval::point(0.0); 3])?.expect("a point is small enough");
+/// assert!(origin.value.lo <= 0.0 && 0.0 <= origin.value.hi);
+/// assert!(origin.gradient[0].lo > 0.62 && origin.gradient[0].hi < 0.63);
+/// assert_eq!(jet(&core, [Interval::new(0.0, 10.0); 3]), Ok(None));
+/// # Ok::<(), gyroid_cells::Refusal>(())
+/// ```
 pub fn jet(description: &Description, world: World) -> Result<Option<Jet>, Refusal> {
     Ok(on_slice(raw::gyroid_jet, description, &ends(world))?.map(jet_of))
 }
 
 /// As [`jet`], less the level's affine extension and its gradient.
+///
+/// ```
+/// use gyroid_cells::{Description, Interval, affine_jet};
+///
+/// // The level 1 over all space: g less the level is −1 at the origin.
+/// let core = Description::constant(10240, 1024);
+/// let origin = affine_jet(&core, [Interval::point(0.0); 3])?.expect("a point is small enough");
+/// assert!(origin.value.lo <= -1.0 && -1.0 <= origin.value.hi);
+/// # Ok::<(), gyroid_cells::Refusal>(())
+/// ```
 pub fn affine_jet(description: &Description, world: World) -> Result<Option<Jet>, Refusal> {
     Ok(on_slice(raw::gyroid_affine_jet, description, &ends(world))?.map(jet_of))
 }
 
 /// The gradient of g less the level and the Hessian of g over a box on which the level is the given piece.
+/// `None` beyond the reduction.
+///
+/// ```
+/// use gyroid_cells::{Description, Interval, Piece, derivatives};
+///
+/// let core = Description::constant(10240, 0);
+/// let origin = derivatives(&core, [Interval::point(0.0); 3], Piece::Start)?.expect("within reach");
+/// assert!(origin.gradient[0].lo > 0.62 && origin.gradient[0].hi < 0.63);
+/// assert!(origin.hessian[0][0].lo <= 0.0 && 0.0 <= origin.hessian[0][0].hi);
+///
+/// // 10^12 mm are 2^40 periods of one tick or more.
+/// let finest = Description::constant(1, 0);
+/// assert_eq!(derivatives(&finest, [Interval::point(1e12); 3], Piece::Start), Ok(None));
+/// # Ok::<(), gyroid_cells::Refusal>(())
+/// ```
 pub fn derivatives(description: &Description, world: World, piece: Piece) -> Result<Option<Derivatives>, Refusal> {
     let found = lend::derivatives(description, &ends(world), piece as u32)?;
     Ok(found.map(|row| Derivatives {
@@ -77,24 +135,66 @@ pub fn derivatives(description: &Description, world: World, piece: Piece) -> Res
 }
 
 /// An enclosure of g less the level over a box, or `None` over an infinite end and beyond the reduction.
+///
+/// ```
+/// use gyroid_cells::{Description, Interval, residual};
+///
+/// let core = Description::constant(10240, 2048);
+/// let enclosure = residual(&core, [Interval::new(0.0, 0.5); 3])?.expect("within reach");
+/// assert!(enclosure.hi < 0.0);
+/// assert_eq!(residual(&core, [Interval::new(0.0, f64::INFINITY); 3]), Ok(None));
+/// # Ok::<(), gyroid_cells::Refusal>(())
+/// ```
 pub fn residual(description: &Description, world: World) -> Result<Option<Interval>, Refusal> {
     let found = on_slice::<_, _, 2>(raw::gyroid_residual, description, &ends(world))?;
     Ok(found.map(|row| interval(&row, 0)))
 }
 
 /// As [`residual`], with the level's affine extension in the level's place.
+///
+/// ```
+/// use gyroid_cells::{Description, Interval, affine_residual, residual};
+///
+/// // A constant level is its own affine extension.
+/// let core = Description::constant(10240, 2048);
+/// let world = [Interval::new(0.0, 0.5); 3];
+/// assert_eq!(affine_residual(&core, world), residual(&core, world));
+/// ```
 pub fn affine_residual(description: &Description, world: World) -> Result<Option<Interval>, Refusal> {
     let found = on_slice::<_, _, 2>(raw::gyroid_affine_residual, description, &ends(world))?;
     Ok(found.map(|row| interval(&row, 0)))
 }
 
 /// The mark of a box.
+///
+/// ```
+/// use gyroid_cells::{Description, Interval, State, box_state};
+///
+/// let core = Description::constant(10240, 2048);
+/// assert_eq!(box_state(&core, [Interval::new(0.0, 0.5); 3]), Ok(State::Inside));
+/// assert_eq!(box_state(&core, [Interval::new(0.0, 10.0); 3]), Ok(State::Unsettled));
+/// ```
 pub fn box_state(description: &Description, world: World) -> Result<State, Refusal> {
     let [state] = always(on_slice(raw::gyroid_box_state, description, &ends(world)))?;
-    Ok(State::of(state).unwrap_or_else(|| panic!("state {state}, which the library never answers")))
+    Ok(named(state))
 }
 
 /// g less the level's affine extension over a triangle. It promises no enclosure: its widening is rounded to nearest.
+/// `None` beyond the reduction.
+///
+/// ```
+/// use gyroid_cells::{Description, Interval, facet_residual};
+///
+/// let corner = |x, y, z| [x, y, z].map(Interval::point);
+/// let triangle = [corner(0.0, 0.0, 0.0), corner(0.5, 0.0, 0.0), corner(0.0, 0.5, 0.0)];
+/// let core = Description::constant(10240, 2048);
+/// assert!(facet_residual(&core, triangle)?.is_some_and(|residual| residual.hi < 0.0));
+///
+/// // 10^12 mm are 2^40 periods of one tick or more.
+/// let finest = Description::constant(1, 0);
+/// assert_eq!(facet_residual(&finest, [corner(1e12, 0.0, 0.0); 3]), Ok(None));
+/// # Ok::<(), gyroid_cells::Refusal>(())
+/// ```
 pub fn facet_residual(description: &Description, corners: [World; 3]) -> Result<Option<Interval>, Refusal> {
     let rows = corners.map(ends);
     let found = on_slice::<_, _, 2>(raw::gyroid_facet_residual, description, rows.as_flattened())?;
@@ -102,42 +202,103 @@ pub fn facet_residual(description: &Description, corners: [World; 3]) -> Result<
 }
 
 /// An upper bound of the norm of g's Hessian.
+///
+/// ```
+/// use gyroid_cells::{Description, curvature};
+///
+/// // Per square millimetre; it does not depend on the level.
+/// let bound = curvature(&Description::constant(10240, 0))?;
+/// assert!(bound.lo > 0.0);
+/// assert_eq!(curvature(&Description::constant(10240, 2048)), Ok(bound));
+/// # Ok::<(), gyroid_cells::Refusal>(())
+/// ```
 pub fn curvature(description: &Description) -> Result<Interval, Refusal> {
     let row: [f64; 2] = always(on_description(raw::gyroid_curvature, description))?;
     Ok(interval(&row, 0))
 }
 
 /// An upper bound of the size of the gradient of g less the level, per millimetre.
+///
+/// ```
+/// use gyroid_cells::{Description, lipschitz};
+///
+/// // A ramp adds its slope.
+/// let constant = lipschitz(&Description::constant(10240, 0))?;
+/// let ramp = lipschitz(&Description::linear(10240, [0; 3], [10240, 0, 0], -256, 256))?;
+/// assert!(constant.hi < ramp.lo);
+/// # Ok::<(), gyroid_cells::Refusal>(())
+/// ```
 pub fn lipschitz(description: &Description) -> Result<Interval, Refusal> {
     let row: [f64; 2] = always(on_description(raw::gyroid_lipschitz, description))?;
     Ok(interval(&row, 0))
 }
 
 /// `true` where a constant level is at least 3/2, so that every point is in the network, `false` where it is at most −3/2.
+///
+/// ```
+/// use gyroid_cells::{Description, saturated};
+///
+/// assert_eq!(saturated(&Description::constant(10240, 1536)), Ok(Some(true)));
+/// assert_eq!(saturated(&Description::constant(10240, -1536)), Ok(Some(false)));
+/// assert_eq!(saturated(&Description::constant(10240, 1535)), Ok(None));
+/// ```
 pub fn saturated(description: &Description) -> Result<Option<bool>, Refusal> {
     let found = on_description(raw::gyroid_saturated, description)?;
     Ok(found.map(|[number]| truth(number)))
 }
 
 /// Whether the level is a ramp.
+///
+/// ```
+/// use gyroid_cells::{Description, graded};
+///
+/// // Equal ends are a constant level.
+/// let level = |end| graded(&Description::linear(10240, [0; 3], [10240, 0, 0], 0, end));
+/// assert_eq!((level(256), level(0)), (Ok(true), Ok(false)));
+/// ```
 pub fn graded(description: &Description) -> Result<bool, Refusal> {
     let [number] = always(on_description(raw::gyroid_graded, description))?;
     Ok(truth(number))
 }
 
 /// The anchor planes of a ramp; a constant level has none.
+///
+/// ```
+/// use gyroid_cells::{Description, Planes, planes};
+///
+/// let ramp = Description::linear(10240, [0, 7, 0], [0, 10247, 0], -256, 256);
+/// assert_eq!(planes(&ramp), Ok(Some(Planes { axis: 1, from: 7, to: 10247 })));
+/// assert_eq!(planes(&Description::constant(10240, 0)), Ok(None));
+/// ```
 pub fn planes(description: &Description) -> Result<Option<Planes>, Refusal> {
     let found = on_description(raw::gyroid_planes, description)?;
     Ok(found.map(|[axis, from, to]| Planes { axis: axis as usize, from, to }))
 }
 
 /// g less the level over the Lipschitz bound at a point in millimetres, in doubles: tentative, no enclosure.
+///
+/// ```
+/// use gyroid_cells::{Description, fast_distance};
+///
+/// // Half a millimetre from the origin along x, g is above 0.
+/// let near = fast_distance(&Description::constant(10240, 0), [0.5, 0.0, 0.0])?;
+/// assert!(0.0 < near && near < 0.5);
+/// # Ok::<(), gyroid_cells::Refusal>(())
+/// ```
 pub fn fast_distance(description: &Description, point: [f64; 3]) -> Result<f64, Refusal> {
     let [value] = always(on_slice(raw::gyroid_fast_distance, description, &point))?;
     Ok(value)
 }
 
 /// The level at a point in millimetres, in doubles: tentative, no enclosure.
+///
+/// ```
+/// use gyroid_cells::{Description, fast};
+///
+/// // Three quarters up a ramp from −1/4 to 1/4 over 10 mm.
+/// let ramp = Description::linear(10240, [0; 3], [10240, 0, 0], -256, 256);
+/// assert_eq!(fast(&ramp, [7.5, 0.0, 0.0]), Ok(0.125));
+/// ```
 pub fn fast(description: &Description, point: [f64; 3]) -> Result<f64, Refusal> {
     let [value] = always(on_slice(raw::gyroid_fast, description, &point))?;
     Ok(value)

@@ -1,7 +1,18 @@
 //! What a planner enters: the 18 whole numbers of a description, by name.
 
+use core::fmt;
+
 /// A graded gyroid in whole ticks (1/1024 mm) and level counts (1/1024). Any number may stand in any entry: the calls refuse what
 /// is outside document 01's limits, in unused entries too.
+///
+/// Its text is the entries in document 01's order, with single spaces between.
+///
+/// ```
+/// use gyroid_cells::Description;
+///
+/// let core = Description { kind: 1, ..Description::constant(10240, 2048) };
+/// assert_eq!(core.to_string(), "10240 1 0 0 0 0 0 0 0 2048 0 1 0 0 0 0 0 0");
+/// ```
 #[derive(Clone, Copy, Debug, PartialEq, Eq, Hash)]
 pub struct Description {
     /// The period in ticks.
@@ -26,6 +37,12 @@ pub struct Description {
 
 impl Description {
     /// A network in the part frame with a constant level.
+    ///
+    /// ```
+    /// use gyroid_cells::{Description, saturated};
+    ///
+    /// assert_eq!(saturated(&Description::constant(10240, 2048)), Ok(Some(true)));
+    /// ```
     pub fn constant(period: i64, level: i64) -> Self {
         Self {
             period,
@@ -41,11 +58,24 @@ impl Description {
     }
 
     /// A network in the part frame whose level goes from `start` at `from` to `end` at `to`, and is held beyond.
+    ///
+    /// ```
+    /// use gyroid_cells::{Description, graded};
+    ///
+    /// assert_eq!(graded(&Description::linear(10240, [0; 3], [10240, 0, 0], -256, 256)), Ok(true));
+    /// ```
     pub fn linear(period: i64, from: [i64; 3], to: [i64; 3], start: i64, end: i64) -> Self {
         Self { level_kind: 1, from, to, end, ..Self::constant(period, start) }
     }
 
     /// The entries in document 01's order.
+    ///
+    /// ```
+    /// use gyroid_cells::Description;
+    ///
+    /// let core = Description::constant(10240, 2048);
+    /// assert_eq!(core.entries(), [10240, 0, 0, 0, 0, 0, 0, 0, 0, 2048, 0, 1, 0, 0, 0, 0, 0, 0]);
+    /// ```
     pub fn entries(&self) -> [i64; 18] {
         let [fx, fy, fz] = self.from;
         let [tx, ty, tz] = self.to;
@@ -56,6 +86,13 @@ impl Description {
     }
 
     /// The description with these entries, in document 01's order.
+    ///
+    /// ```
+    /// use gyroid_cells::Description;
+    ///
+    /// let core = Description::linear(10240, [1, 2, 3], [4, 5, 6], 7, 8);
+    /// assert_eq!(Description::from_entries(core.entries()), core);
+    /// ```
     pub fn from_entries(entries: [i64; 18]) -> Self {
         let [period, kind, level_kind, fx, fy, fz, tx, ty, tz, start, end, w, x, y, z, mx, my, mz] = entries;
         Self {
@@ -69,5 +106,13 @@ impl Description {
             rotation: [w, x, y, z],
             translation: [mx, my, mz],
         }
+    }
+}
+
+impl fmt::Display for Description {
+    fn fmt(&self, f: &mut fmt::Formatter<'_>) -> fmt::Result {
+        let [period, others @ ..] = self.entries();
+        write!(f, "{period}")?;
+        others.iter().try_for_each(|entry| write!(f, " {entry}"))
     }
 }

@@ -1,5 +1,7 @@
-//! Lends slices to the static library and reads its status. All that is unsafe in this crate stands here.
+//! Lends slices to the static library, in the default float state, and reads its status. All that is unsafe in this crate stands here
+//! and in float_state.rs.
 
+use crate::float_state::in_default;
 use crate::raw::{self, FOUND, NONE, OnDescription, OnSlice};
 use crate::{Description, Refusal};
 
@@ -11,8 +13,8 @@ fn found(status: u32) -> Result<bool, Refusal> {
     match status {
         FOUND => Ok(true),
         NONE => Ok(false),
-        1..=14 => Err(Refusal(status)),
-        _ => panic!("status {status}, which no call answers to slices of the right lengths"),
+        _ => Err(Refusal::try_from(status)
+            .unwrap_or_else(|_| panic!("status {status}, which no call answers to slices of the right lengths"))),
     }
 }
 
@@ -32,7 +34,7 @@ pub(crate) fn on_description<T: Copy + Default, const N: usize>(
     let d = description.entries();
     let mut out = [T::default(); N];
     // Both slices are arrays of their own, alive for the call.
-    let status = unsafe { call(d.as_ptr(), d.len(), out.as_mut_ptr(), N) };
+    let status = in_default(|| unsafe { call(d.as_ptr(), d.len(), out.as_mut_ptr(), N) });
     read(status, out)
 }
 
@@ -44,7 +46,7 @@ pub(crate) fn on_slice<A, T: Copy + Default, const N: usize>(
     let d = description.entries();
     let mut out = [T::default(); N];
     // The slices are alive for the call, and `out` is an array of its own.
-    let status = unsafe { call(d.as_ptr(), d.len(), lent.as_ptr(), lent.len(), out.as_mut_ptr(), N) };
+    let status = in_default(|| unsafe { call(d.as_ptr(), d.len(), lent.as_ptr(), lent.len(), out.as_mut_ptr(), N) });
     read(status, out)
 }
 
@@ -52,9 +54,9 @@ pub(crate) fn derivatives(description: &Description, world: &[f64; 6], piece: u3
     let d = description.entries();
     let mut out = [0.0; 24];
     // As above.
-    let status = unsafe {
+    let status = in_default(|| unsafe {
         raw::gyroid_derivatives(d.as_ptr(), d.len(), world.as_ptr(), world.len(), piece, out.as_mut_ptr(), out.len())
-    };
+    });
     read(status, out)
 }
 
@@ -62,9 +64,9 @@ pub(crate) fn walk(description: &Description, bounds: &[i64; 6], depth: i64, tab
     let d = description.entries();
     let length = table.len();
     // As above; the table is the caller's, and lent to this call alone.
-    let status = unsafe {
+    let status = in_default(|| unsafe {
         raw::gyroid_walk(d.as_ptr(), d.len(), bounds.as_ptr(), bounds.len(), depth, table.as_mut_ptr(), length)
-    };
+    });
     assert!(found(status)?, "a walk always finds its cells");
     Ok(())
 }

@@ -22,13 +22,18 @@
 //! # Ok::<(), gyroid_cells::Refusal>(())
 //! ```
 //!
+//! The proofs speak of IEEE 754 as a processor starts, and another library of the process may have changed that: one built with
+//! `-ffast-math` does. So each call sets the default float state (MXCSR 0x1F80) for its time and restores the caller's, exception
+//! flags and all. The functions of [`raw`] do not.
+//!
 //! The static library is made by `rt staticlib capi` in the project's root; the build runs that command where the library is
-//! missing. `GYROID_ARCHIVE_DIR` names another directory. bindings/gyroid.h has the same calls for C.
+//! missing. `GYROID_ARCHIVE_DIR` names another directory; a relative one is read from where cargo was started. bindings/gyroid.h has the same calls for C.
 #![no_std]
 #![warn(missing_docs)]
 
 mod calls;
 mod description;
+mod float_state;
 mod lend;
 pub mod raw;
 mod refusal;
@@ -39,4 +44,4 @@ pub use calls::*;
 pub use description::Description;
 pub use refusal::Refusal;
 pub use table::{Cell, Cells, Head, SLOT, Table};
-pub use values::{Bounds, Derivatives, Interval, Jet, Piece, Planes, Range, State};
+pub use values::{Bounds, Derivatives, Interval, Jet, Piece, Planes, Range, State, UnknownNumber};

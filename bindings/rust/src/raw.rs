@@ -1,9 +1,20 @@
-//! The static library's functions as they are. bindings/gyroid.h says what each takes and answers.
+//! The static library's functions as they are. bindings/gyroid.h says what each takes and answers. They compute in the float state
+//! that they find: who calls them sees to it that it is the default one.
+//!
+//! ```
+//! use gyroid_cells::{Description, raw};
+//!
+//! let core = Description::constant(10240, 2048).entries();
+//! let mut graded = [7];
+//! // Both slices are arrays of their own, alive for the call.
+//! let status = unsafe { raw::gyroid_graded(core.as_ptr(), core.len(), graded.as_mut_ptr(), graded.len()) };
+//! assert_eq!((status, graded), (raw::FOUND, [0]));
+//! ```
 //!
 //! # Safety
 //!
 //! Every pointer must be valid for the number of entries that follows it, for reading, and `out`, which is a walk's table, for
-//! writing; `out` must not overlap another slice.
+//! writing; one with the number 0 may be anything. `out` must not overlap another slice.
 
 /// A call on a description alone.
 pub type OnDescription<T> = unsafe extern "C" fn(*const i64, usize, *mut T, usize) -> u32;

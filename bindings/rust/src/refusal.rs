@@ -1,18 +1,43 @@
 //! A refusal: document 01's number, and what it says.
 
+use crate::UnknownNumber;
 use core::fmt;
 
-/// Why a call could not work on its input. The first that holds wins, in document 01's order.
+/// Why a call could not work on its input, by document 01's number, 1 to 13. The first that holds wins, in document 01's order.
+///
+/// A number that was kept is read back; one that no call answers is none. 14 is the program `cells`' own: a text that is not its line.
+///
+/// ```
+/// use gyroid_cells::Refusal;
+///
+/// let full = Refusal::try_from(13).unwrap();
+/// assert_eq!(full.number(), 13);
+/// assert_eq!(full.to_string(), "refused 13: the table has too few slots for the cells");
+/// assert!(Refusal::try_from(0).is_err() && Refusal::try_from(14).is_err());
+/// ```
 #[derive(Clone, Copy, Debug, PartialEq, Eq, PartialOrd, Ord, Hash)]
-pub struct Refusal(pub(crate) u32);
+pub struct Refusal(u32);
 
 impl Refusal {
     /// Document 01's number.
+    ///
+    /// ```
+    /// use gyroid_cells::{Description, graded};
+    ///
+    /// let refused = graded(&Description::constant(0, 2048)).unwrap_err();
+    /// assert_eq!(refused.number(), 2);
+    /// ```
     pub fn number(self) -> u32 {
         self.0
     }
 
     /// What the number says, in a few words.
+    ///
+    /// ```
+    /// use gyroid_cells::Refusal;
+    ///
+    /// assert_eq!(Refusal::try_from(2).unwrap().text(), "the period is not above 0, or from = to");
+    /// ```
     pub fn text(self) -> &'static str {
         match self.0 {
             1 => "an entry is outside its limits or kinds",
@@ -28,8 +53,16 @@ impl Refusal {
             11 => "a span of the box is below 1",
             12 => "the depth is below 0 or above 24",
             13 => "the table has too few slots for the cells",
-            _ => "refused",
+            other => unreachable!("{other} is no refusal"),
         }
+    }
+}
+
+impl TryFrom<u32> for Refusal {
+    type Error = UnknownNumber;
+
+    fn try_from(number: u32) -> Result<Self, UnknownNumber> {
+        if (1..=13).contains(&number) { Ok(Self(number)) } else { Err(UnknownNumber(number)) }
     }
 }
 

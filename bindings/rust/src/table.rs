@@ -5,7 +5,26 @@ use crate::{Bounds, State};
 /// The bytes of a slot: a walk of n cells wants a table of n + 1 slots.
 pub const SLOT: usize = 32;
 
-/// A walk's table. [`walk`](crate::walk) answers one; [`Table::read`] makes one of bytes that were kept.
+/// A walk's table. [`walk`](crate::walk) answers one; [`Table::read`] makes one of bytes that were kept. A reference to it iterates
+/// over the cells.
+///
+/// ```
+/// use gyroid_cells::{Bounds, Description, State, walk};
+///
+/// let core = Description::constant(10240, 2048);
+/// let part = Bounds { low: [0; 3], high: [1024; 3] };
+/// let mut bytes = [0; 64 * 32];
+/// let table = walk(&core, part, 1, &mut bytes)?;
+///
+/// let mut solid = 0;
+/// for cell in &table {
+///     if cell.state == State::Inside {
+///         solid += cell.bounds.volume().unwrap();
+///     }
+/// }
+/// assert_eq!(solid, table.head().solid);
+/// # Ok::<(), gyroid_cells::Refusal>(())
+/// ```
 #[derive(Clone, Copy, Debug)]
 pub struct Table<'a> {
     /// A slot at least.
@@ -52,6 +71,18 @@ impl<'a> Table<'a> {
 
     /// The table in these bytes, or `None` where they hold no chain of as many cells as the head says. Bytes that are all zero, as a
     /// walk refused by 13 leaves them, are a table without cells.
+    ///
+    /// ```
+    /// use gyroid_cells::{Bounds, Description, Table, walk};
+    ///
+    /// let core = Description::constant(10240, 2048);
+    /// let mut bytes = [0; 96];
+    /// walk(&core, Bounds { low: [0; 3], high: [1024; 3] }, 1, &mut bytes)?;
+    ///
+    /// assert_eq!(Table::read(&bytes).unwrap().len(), 2);
+    /// assert!(Table::read(&bytes[..64]).is_none());
+    /// # Ok::<(), gyroid_cells::Refusal>(())
+    /// ```
     pub fn read(bytes: &'a [u8]) -> Option<Self> {
         let slots = bytes.len() / SLOT;
         if slots == 0 {
@@ -66,6 +97,11 @@ impl<'a> Table<'a> {
     }
 
     /// Slot 0.
+    ///
+    /// ```
+    /// let head = gyroid_cells::Table::read(&[0; 32]).unwrap().head();
+    /// assert_eq!((head.cells, head.evaluated, head.solid, head.open), (0, 0, 0, 0));
+    /// ```
     pub fn head(&self) -> Head {
         Head {
             first: self.u32_at(0),
@@ -76,7 +112,37 @@ impl<'a> Table<'a> {
         }
     }
 
+    /// The number of cells.
+    ///
+    /// ```
+    /// assert_eq!(gyroid_cells::Table::read(&[0; 32]).unwrap().len(), 0);
+    /// ```
+    pub fn len(&self) -> usize {
+        self.head().cells as usize
+    }
+
+    /// Whether there is no cell. A walk that was not refused leaves one at least.
+    ///
+    /// ```
+    /// assert!(gyroid_cells::Table::read(&[0; 32]).unwrap().is_empty());
+    /// ```
+    pub fn is_empty(&self) -> bool {
+        self.len() == 0
+    }
+
     /// The cells in the chain's order, which is the walk's.
+    ///
+    /// ```
+    /// use gyroid_cells::{Bounds, Description, State, walk};
+    ///
+    /// let core = Description::constant(10240, 2048);
+    /// let mut bytes = [0; 96];
+    /// let table = walk(&core, Bounds { low: [0; 3], high: [1024; 3] }, 1, &mut bytes)?;
+    ///
+    /// let unsettled: Vec<_> = table.cells().filter(|cell| cell.state == State::Unsettled).collect();
+    /// assert_eq!(unsettled[0].bounds, Bounds { low: [512, 0, 0], high: [1024, 1024, 1024] });
+    /// # Ok::<(), gyroid_cells::Refusal>(())
+    /// ```
     pub fn cells(&self) -> Cells<'a> {
         Cells { table: *self, slot: self.u32_at(0) }
     }
@@ -99,9 +165,18 @@ impl<'a> Table<'a> {
             return None;
         }
         let place = slot as usize * SLOT;
-        let state = State::of(self.u32_at(place + 4).into())?;
+        let state = State::try_from(self.u32_at(place + 4)).ok()?;
         let bounds = Bounds { low: self.corner(place + 8), high: self.corner(place + 20) };
         Some((self.u32_at(place), Cell { state, bounds }))
+    }
+}
+
+impl<'a> IntoIterator for &Table<'a> {
+    type Item = Cell;
+    type IntoIter = Cells<'a>;
+
+    fn into_iter(self) -> Cells<'a> {
+        self.cells()
     }
 }
 
@@ -145,13 +220,16 @@ mod tests {
         let table = Table::read(&bytes).unwrap();
         assert_eq!(table.head(), Head { first: 2, cells: 2, evaluated: 3, solid: 7, open: u64::MAX });
         let cells: Vec<Cell> = table.cells().collect();
+        assert_eq!((table.len(), table.is_empty()), (2, false));
+        assert!((&table).into_iter().eq(cells.iter().copied()));
         let cell = |state, low, high| Cell { state, bounds: Bounds { low, high } };
         assert_eq!(cells, [cell(State::Inside, [-1, 0, 0], [1, 1, 1]), cell(State::Unsettled, [1, 0, 0], [2, 1, 1])]);
     }
 
     #[test]
     fn all_zero_is_a_table_without_cells() {
-        assert_eq!(Table::read(&[0; 33]).unwrap().cells().next(), None);
+        let table = Table::read(&[0; 33]).unwrap();
+        assert_eq!((table.cells().next(), table.len(), table.is_empty()), (None, 0, true));
         assert!(Table::read(&[0; 31]).is_none());
     }
 

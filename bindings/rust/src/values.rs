@@ -1,5 +1,26 @@
 //! What the calls take and answer, by value.
 
+use core::fmt;
+
+/// A number that stands for nothing: for no [`State`], no [`Piece`], no [`Refusal`](crate::Refusal) of a call.
+///
+/// ```
+/// use gyroid_cells::{State, UnknownNumber};
+///
+/// assert_eq!(State::try_from(4), Err(UnknownNumber(4)));
+/// assert_eq!(UnknownNumber(4).to_string(), "4 stands for nothing");
+/// ```
+#[derive(Clone, Copy, Debug, PartialEq, Eq, Hash)]
+pub struct UnknownNumber(pub u32);
+
+impl fmt::Display for UnknownNumber {
+    fn fmt(&self, f: &mut fmt::Formatter<'_>) -> fmt::Result {
+        write!(f, "{} stands for nothing", self.0)
+    }
+}
+
+impl core::error::Error for UnknownNumber {}
+
 /// Two doubles, in millimetres where they bound a box.
 #[derive(Clone, Copy, Debug, PartialEq)]
 pub struct Interval {
@@ -11,11 +32,25 @@ pub struct Interval {
 
 impl Interval {
     /// The interval of these ends as they stand: a call refuses a NaN, or a low end above the high one, by 9.
+    ///
+    /// ```
+    /// use gyroid_cells::{Description, Interval, residual};
+    ///
+    /// let reversed = Interval::new(1.0, 0.0);
+    /// let refused = residual(&Description::constant(10240, 2048), [reversed; 3]).unwrap_err();
+    /// assert_eq!(refused.number(), 9);
+    /// ```
     pub fn new(lo: f64, hi: f64) -> Self {
         Self { lo, hi }
     }
 
     /// The interval of one double.
+    ///
+    /// ```
+    /// use gyroid_cells::Interval;
+    ///
+    /// assert_eq!(Interval::point(0.5), Interval::new(0.5, 0.5));
+    /// ```
     pub fn point(v: f64) -> Self {
         Self { lo: v, hi: v }
     }
@@ -30,7 +65,31 @@ pub struct Bounds {
     pub high: [i64; 3],
 }
 
+impl Bounds {
+    /// The tick cubes in the box, or `None` where a low is above its high or the number does not fit 64 bits. Within document 01's
+    /// limits, lows at most highs, there is one: 2^63 at most.
+    ///
+    /// ```
+    /// use gyroid_cells::Bounds;
+    ///
+    /// assert_eq!(Bounds { low: [-1, 0, 0], high: [1, 3, 4] }.volume(), Some(24));
+    /// assert_eq!(Bounds { low: [-1 << 20; 3], high: [1 << 20; 3] }.volume(), Some(1 << 63));
+    /// assert_eq!(Bounds { low: [0; 3], high: [1, 1, -1] }.volume(), None);
+    /// ```
+    pub fn volume(&self) -> Option<u64> {
+        let spans = [0, 1, 2].map(|i| (self.low[i] <= self.high[i]).then(|| self.high[i].abs_diff(self.low[i])));
+        spans.into_iter().try_fold(1_u64, |product, span| product.checked_mul(span?))
+    }
+}
+
 /// The piece of a level that holds over a whole box.
+///
+/// ```
+/// use gyroid_cells::Piece;
+///
+/// assert_eq!(Piece::try_from(1), Ok(Piece::Ramp));
+/// assert!(Piece::try_from(3).is_err());
+/// ```
 #[derive(Clone, Copy, Debug, PartialEq, Eq, Hash)]
 pub enum Piece {
     /// The start value, at or before the start anchor's plane; a constant level everywhere.
@@ -41,7 +100,24 @@ pub enum Piece {
     End = 2,
 }
 
+impl TryFrom<u32> for Piece {
+    type Error = UnknownNumber;
+
+    fn try_from(number: u32) -> Result<Self, UnknownNumber> {
+        let pieces = [Piece::Start, Piece::Ramp, Piece::End];
+        pieces.into_iter().find(|piece| *piece as u32 == number).ok_or(UnknownNumber(number))
+    }
+}
+
 /// The mark of a box.
+///
+/// ```
+/// use gyroid_cells::State;
+///
+/// assert_eq!(State::try_from(3), Ok(State::Unsettled));
+/// assert_eq!(State::Inside.to_string(), "inside");
+/// assert_eq!(State::Outside as u32, 2);
+/// ```
 #[derive(Clone, Copy, Debug, PartialEq, Eq, Hash)]
 pub enum State {
     /// The residual is below zero all over the box.
@@ -52,10 +128,22 @@ pub enum State {
     Unsettled = 3,
 }
 
-impl State {
-    /// The mark by its number.
-    pub(crate) fn of(number: i64) -> Option<Self> {
-        [State::Inside, State::Outside, State::Unsettled].into_iter().find(|state| *state as i64 == number)
+impl TryFrom<u32> for State {
+    type Error = UnknownNumber;
+
+    fn try_from(number: u32) -> Result<Self, UnknownNumber> {
+        let states = [State::Inside, State::Outside, State::Unsettled];
+        states.into_iter().find(|state| *state as u32 == number).ok_or(UnknownNumber(number))
+    }
+}
+
+impl fmt::Display for State {
+    fn fmt(&self, f: &mut fmt::Formatter<'_>) -> fmt::Result {
+        f.pad(match self {
+            State::Inside => "inside",
+            State::Outside => "outside",
+            State::Unsettled => "unsettled",
+        })
     }
 }
 

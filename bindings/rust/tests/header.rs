@@ -1,0 +1,55 @@
+//! bindings/gyroid.h says the same as this crate: version, statuses, states, pieces, refusals.
+
+use gyroid_cells::{Piece, Refusal, SLOT, State, raw};
+use std::collections::BTreeMap;
+
+const HEADER: &str = include_str!("../../gyroid.h");
+
+/// The constants of the header's enums, by name.
+fn constants() -> BTreeMap<&'static str, u32> {
+    let pairs = HEADER.split(['{', '}', ',', '\n']).filter_map(|part| part.trim().split_once(" = "));
+    pairs.filter_map(|(name, number)| Some((name, number.split(' ').next()?.parse().ok()?))).collect()
+}
+
+/// What a macro stands for.
+fn macro_text(name: &str) -> &'static str {
+    let start = format!("#define {name} ");
+    HEADER.lines().find_map(|line| line.strip_prefix(&start)).unwrap_or_else(|| panic!("{name} is missing")).trim()
+}
+
+#[test]
+fn version() {
+    assert_eq!(macro_text("GYROID_VERSION"), format!("\"{}\"", env!("CARGO_PKG_VERSION")));
+    let parts = ["MAJOR", "MINOR", "PATCH"].map(|part| macro_text(&format!("GYROID_VERSION_{part}")));
+    assert_eq!(parts.join("."), env!("CARGO_PKG_VERSION"));
+}
+
+#[test]
+fn numbers() {
+    let constants = constants();
+    let same = |name: &str, number: u32| assert_eq!(constants.get(name), Some(&number), "{name}");
+    same("GYROID_FOUND", raw::FOUND);
+    same("GYROID_NONE", raw::NONE);
+    same("GYROID_LENGTH", raw::LENGTH);
+    same("GYROID_SLOT", SLOT as u32);
+    same("GYROID_START", Piece::Start as u32);
+    same("GYROID_RAMP", Piece::Ramp as u32);
+    same("GYROID_END", Piece::End as u32);
+    same("GYROID_INSIDE", State::Inside as u32);
+    same("GYROID_OUTSIDE", State::Outside as u32);
+    same("GYROID_UNSETTLED", State::Unsettled as u32);
+}
+
+/// Every refusal of the crate has a name in the header, and every name there is one of them.
+#[test]
+fn refusals() {
+    let constants = constants();
+    let named = constants.iter().filter(|(name, _)| name.starts_with("GYROID_REFUSED_"));
+    let mut numbers: Vec<u32> = named.map(|(_, number)| *number).collect();
+    numbers.sort();
+    numbers.dedup();
+    let refusals: Vec<u32> = (0..200).filter(|number| Refusal::try_from(*number).is_ok()).collect();
+    assert_eq!(numbers, refusals);
+    assert_eq!(constants["GYROID_REFUSED_SHEET"], 3);
+    assert_eq!(constants["GYROID_REFUSED_ROOM"], 13);
+}
