@@ -1,9 +1,11 @@
-//! What the static library promises of a walk's lent slices: lengths are tested before all else, a table may start and end at any
-//! byte, and nothing beside it is touched.
+//! What the static library promises of a walk's lent slices: lengths are tested before all else, slices may start at any byte, a slice
+//! without entries may be null, and nothing beside the table is touched.
 
+use crate::placed::Placed;
 use crate::{cases, ours};
 use gyroid_cells::raw::{self, LENGTH};
 use request::{Answer, Call, Request, Walked, unwritten};
+use std::ptr::null_mut;
 
 /// Bytes on either side of the table; an odd number, so that no slot is aligned.
 const MARGIN: usize = 61;
@@ -12,15 +14,13 @@ const LENGTHS: [[usize; 2]; 9] = [[18, 6], [17, 6], [19, 6], [0, 6], [18, 0], [1
 
 /// Lends the first entries of the description and of the bounds, and the table amid its margins.
 fn lend(request: &Request, [length, lent]: [usize; 2], around: &mut [u8]) -> u32 {
-    let mut d = [0; 19];
-    d[..18].copy_from_slice(&request.description);
-    let mut bounds = [0; 7];
-    bounds[..6].copy_from_slice(&request.whole);
-    assert!(length <= d.len() && lent <= bounds.len());
+    let first = |row: &[i64], length| row.iter().map(|n| *n as u64).chain([0]).take(length).collect::<Vec<_>>();
+    let mut d = Placed::new(&first(&request.description, length), 1);
+    let mut bounds = Placed::new(&first(&request.whole, lent), 1);
     let table = &mut around[MARGIN..][..request.table];
-    let (at, room) = (table.as_mut_ptr(), table.len());
-    // Every pointer is of an array that is at least as long as the length beside it.
-    unsafe { raw::gyroid_walk(d.as_ptr(), length, bounds.as_ptr(), lent, request.depth, at, room) }
+    let (at, room) = (if table.is_empty() { null_mut() } else { table.as_mut_ptr() }, table.len());
+    // Every pointer is of as many entries as the length beside it says.
+    unsafe { raw::gyroid_walk(d.start(), d.count(), bounds.start(), bounds.count(), request.depth, at, room) }
 }
 
 /// A table amid its margins.

@@ -11,6 +11,7 @@ pub mod lent_table;
 pub mod list;
 pub mod original;
 pub mod ours;
+pub mod placed;
 pub mod race;
 pub mod report;
 pub mod shrink;

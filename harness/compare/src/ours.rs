@@ -16,18 +16,14 @@ fn jet(jet: Jet) -> Answer {
     ends(std::iter::once(jet.value).chain(jet.gradient))
 }
 
-fn piece(number: u32) -> Option<Piece> {
-    [Piece::Start, Piece::Ramp, Piece::End].into_iter().find(|piece| *piece as u32 == number)
-}
-
 /// A piece that is none has no name in the bindings, so the static library is asked itself.
 fn no_piece(request: &Request) -> u32 {
     let mut out = [0; 24];
-    crate::slices::lend(request, 18, 6, &mut out)
+    crate::slices::lend(request, 18, 6, &mut out, 0)
 }
 
 fn derivatives(request: &Request, d: &Description) -> Result<Option<Answer>, Refusal> {
-    let Some(piece) = piece(request.piece) else {
+    let Ok(piece) = Piece::try_from(request.piece) else {
         return Ok(Some(Answer::Refused(no_piece(request))));
     };
     let found = gyroid_cells::derivatives(d, world(&request.doubles, 0), piece)?;

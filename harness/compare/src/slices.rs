@@ -1,6 +1,7 @@
-//! What the static library promises of lent slices: lengths are tested before all else, and nothing is written but found values. A
-//! walk's table has a file of its own.
+//! What the static library promises of lent slices: lengths are tested before all else, a slice without entries may be null, no address
+//! needs to be aligned, and nothing is written but found values. A walk's table has a file of its own.
 
+use crate::placed::Placed;
 use crate::{cases, lent_table};
 use gyroid_cells::raw::{self, FOUND, LENGTH, NONE, OnDescription, OnSlice};
 use request::{Answer, Call, Request, Shape};
@@ -11,6 +12,8 @@ const UNTOUCHED: u64 = 0x7FF8_DEAD_BEEF_0000;
 const ROOM: usize = 30;
 /// Room for any call's arguments, and one more.
 const LENT: usize = 19;
+/// Where slices are lent, from a multiple of 8: there, in the middle, and at an odd address.
+const OFFSETS: [usize; 3] = [0, 4, 1];
 
 /// The values that a call writes.
 fn values(call: Call) -> usize {
@@ -24,34 +27,44 @@ fn values(call: Call) -> usize {
     }
 }
 
-/// Lends the first `length` entries of the description, the first `lent` of the argument, and all of `out`, as bits.
-pub fn lend(request: &Request, length: usize, lent: usize, out: &mut [u64]) -> u32 {
-    let mut d = [0; LENT];
-    d[..18].copy_from_slice(&request.description);
-    let mut whole = [0; LENT];
-    whole[..6].copy_from_slice(&request.whole);
-    let mut doubles = [0.0; LENT];
-    doubles[..18].copy_from_slice(&request.doubles);
-    assert!(length <= LENT && lent <= LENT);
-    let (at, room) = (out.as_mut_ptr(), out.len());
-    // Every pointer is of an array that is at least as long as the length beside it; 64 bits are 64 bits in `out`.
-    let alone_f = |call: OnDescription<f64>| unsafe { call(d.as_ptr(), length, at.cast(), room) };
-    let alone_i = |call: OnDescription<i64>| unsafe { call(d.as_ptr(), length, at.cast(), room) };
-    let on_whole = |call: OnSlice<i64, i64>| unsafe { call(d.as_ptr(), length, whole.as_ptr(), lent, at.cast(), room) };
-    let on_doubles =
-        |call: OnSlice<f64, f64>| unsafe { call(d.as_ptr(), length, doubles.as_ptr(), lent, at.cast(), room) };
+/// The first entries of a row, as bits, and zeros beyond its end.
+fn first(length: usize, row: impl IntoIterator<Item = u64>) -> Vec<u64> {
+    assert!(length <= LENT);
+    row.into_iter().chain([0; LENT]).take(length).collect()
+}
+
+/// Lends the first `length` entries of the description, the first `lent` of the argument, and all of `out`, as bits, each so many
+/// bytes past a multiple of 8.
+pub fn lend(request: &Request, length: usize, lent: usize, out: &mut [u64], offset: usize) -> u32 {
+    let bits = |entries: &[i64]| entries.iter().map(|n| *n as u64).collect::<Vec<_>>();
+    let mut d = Placed::new(&first(length, bits(&request.description)), offset);
+    let mut whole = Placed::new(&first(lent, bits(&request.whole)), offset);
+    let mut doubles = Placed::new(&first(lent, request.doubles.map(f64::to_bits)), offset);
+    let mut room = Placed::new(out, offset);
+    let status = call(request, &mut d, &mut whole, &mut doubles, &mut room);
+    out.copy_from_slice(&room.entries());
+    status
+}
+
+fn call(request: &Request, d: &mut Placed, whole: &mut Placed, doubles: &mut Placed, out: &mut Placed) -> u32 {
+    let (length, lent, room) = (d.count(), whole.count(), out.count());
+    let (d, whole, doubles, at) = (d.start(), whole.start(), doubles.start(), out.start::<u64>());
+    // Every pointer is of as many entries as the length beside it says; 64 bits are 64 bits in `out`.
+    let alone_f = |call: OnDescription<f64>| unsafe { call(d, length, at.cast(), room) };
+    let alone_i = |call: OnDescription<i64>| unsafe { call(d, length, at.cast(), room) };
+    let on_whole = |call: OnSlice<i64, i64>| unsafe { call(d, length, whole, lent, at.cast(), room) };
+    let on_doubles = |call: OnSlice<f64, f64>| unsafe { call(d, length, doubles, lent, at.cast(), room) };
     match request.call {
         Call::GradeRange => on_whole(raw::gyroid_grade_range),
         Call::LevelPiece => on_whole(raw::gyroid_level_piece),
         Call::Jet => on_doubles(raw::gyroid_jet),
         Call::AffineJet => on_doubles(raw::gyroid_affine_jet),
         Call::Derivatives => unsafe {
-            let (d, lent_from) = (d.as_ptr(), doubles.as_ptr());
-            raw::gyroid_derivatives(d, length, lent_from, lent, request.piece, at.cast(), room)
+            raw::gyroid_derivatives(d, length, doubles, lent, request.piece, at.cast(), room)
         },
         Call::Residual => on_doubles(raw::gyroid_residual),
         Call::AffineResidual => on_doubles(raw::gyroid_affine_residual),
-        Call::BoxState => unsafe { raw::gyroid_box_state(d.as_ptr(), length, doubles.as_ptr(), lent, at.cast(), room) },
+        Call::BoxState => unsafe { raw::gyroid_box_state(d, length, doubles, lent, at.cast(), room) },
         Call::FacetResidual => on_doubles(raw::gyroid_facet_residual),
         Call::Curvature => alone_f(raw::gyroid_curvature),
         Call::Lipschitz => alone_f(raw::gyroid_lipschitz),
@@ -73,18 +86,24 @@ fn status(answer: &Answer) -> u32 {
     }
 }
 
-/// Lends slices of these lengths and says what is wrong with the status, or with what was written.
-fn wrong(request: &Request, lengths: [usize; 3], expected: u32) -> Option<String> {
-    let [length, lent, room] = lengths;
+/// The status of a call with slices of these lengths at this offset, and all of `out` afterwards.
+fn lent(request: &Request, [length, lent, room]: [usize; 3], offset: usize) -> (u32, [u64; ROOM]) {
     let mut out = [UNTOUCHED; ROOM];
-    let status = lend(request, length, lent, &mut out[..room]);
+    let status = lend(request, length, lent, &mut out[..room], offset);
+    (status, out)
+}
+
+/// Lends slices of these lengths and says what is wrong with the status, or with what was written.
+fn wrong(request: &Request, lengths: [usize; 3], expected: u32, offset: usize) -> Option<String> {
+    let (status, out) = lent(request, lengths, offset);
     let written = if expected == FOUND { values(request.call) } else { 0 };
     let left = out[written..].iter().all(|bits| *bits == UNTOUCHED);
     let made = out[..written].iter().all(|bits| *bits != UNTOUCHED);
-    (status != expected || !left || !made).then(|| {
+    let alike = (status, out) == lent(request, lengths, 0);
+    (status != expected || !left || !made || !alike).then(|| {
         format!(
-            "{request}\n    lengths {length}, {lent}, {room}: status {status}, not {expected}; \
-             values written: {made}, the rest kept: {left}"
+            "{request}\n    lengths {lengths:?}, offset {offset}: status {status}, not {expected}; \
+             values written: {made}, the rest kept: {left}, all as at a multiple of 8: {alike}"
         )
     })
 }
@@ -128,8 +147,8 @@ pub fn check(call: Call, seed: u64) -> (u64, Vec<String>) {
     let mut faults = Vec::new();
     for request in requests {
         for (lengths, expected) in lengths(&request) {
-            made += 1;
-            faults.extend(wrong(&request, lengths, expected));
+            made += OFFSETS.len() as u64;
+            faults.extend(OFFSETS.iter().filter_map(|offset| wrong(&request, lengths, expected, *offset)));
         }
     }
     (made, faults)
