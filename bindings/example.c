@@ -1,5 +1,5 @@
-/* Asks the mark of one box and the residual behind it, and walks a box that is not settled, in the float state that the proofs speak of.
- * From the project's root:
+/* Asks the mark of one box and the residual behind it, and walks a box that is not settled, in the float state that
+ * the proofs speak of. From the project's root:
  *
  *   rt staticlib capi
  *   cc -I bindings bindings/example.c target/staticlib/libcapi.a -o example && ./example

@@ -44,8 +44,8 @@ fn warn_of_newer_sources(root: &Path, archive: &Path) {
     }
 }
 
-/// The directory that GYROID_ARCHIVE_DIR names. A relative one is read from where cargo was started, which is the working directory of
-/// cargo, this program's parent; this program itself runs in the package's directory.
+/// The directory that GYROID_ARCHIVE_DIR names. A relative one is read from where cargo was started, which is the
+/// working directory of cargo, this program's parent; this program itself runs in the package's directory.
 fn named(directory: PathBuf) -> Result<PathBuf, String> {
     if directory.is_absolute() {
         return Ok(directory);

@@ -1,5 +1,5 @@
-//! Writes the bytes of the table of one walk whose mark hangs on denormals, for bindings/float_state/check: `plain`, by the library
-//! as it is, or `guarded`, by this crate's call.
+//! Writes the bytes of the table of one walk whose mark hangs on denormals, for bindings/float_state/check: `plain`, by
+//! the library as it is, or `guarded`, by this crate's call.
 
 use gyroid_cells::{Bounds, Description, Refusal, SLOT, raw, walk};
 use std::error::Error;

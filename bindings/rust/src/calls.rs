@@ -233,7 +233,8 @@ pub fn lipschitz(description: &Description) -> Result<Interval, Refusal> {
     Ok(interval(&row, 0))
 }
 
-/// `true` where a constant level is at least 3/2, so that every point is in the network, `false` where it is at most −3/2.
+/// `true` where a constant level is at least 3/2, so that every point is in the network, `false` where it is at most
+/// −3/2.
 ///
 /// ```
 /// use gyroid_cells::{Description, saturated};
@@ -304,11 +305,11 @@ pub fn fast(description: &Description, point: [f64; 3]) -> Result<f64, Refusal> 
     Ok(value)
 }
 
-/// Marks a box of whole ticks cell by cell, halving what is unsettled `depth` times at most (0 to 24), and leaves the cells in the
-/// lent table: [`Table`] reads it. One cell takes 32 bytes and so does the head.
+/// Marks a box of whole ticks cell by cell, halving what is unsettled `depth` times at most (0 to 24), and leaves the
+/// cells in the lent table: [`Table`] reads it. One cell takes 32 bytes and so does the head.
 ///
-/// Every byte of the table is written. Refused by 13, for want of room, every byte is zero; refused by another number the table is
-/// as it was.
+/// Every byte of the table is written. Refused by 13, for want of room, every byte is zero; refused by another number
+/// the table is as it was.
 ///
 /// ```
 /// use gyroid_cells::{Bounds, Description, State, walk};

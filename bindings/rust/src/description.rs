@@ -2,8 +2,8 @@
 
 use core::fmt;
 
-/// A graded gyroid in whole ticks (1/1024 mm) and level counts (1/1024). Any number may stand in any entry: the calls refuse what
-/// is outside document 01's limits, in unused entries too.
+/// A graded gyroid in whole ticks (1/1024 mm) and level counts (1/1024). Any number may stand in any entry: the calls
+/// refuse what is outside document 01's limits, in unused entries too.
 ///
 /// Its text is the entries in document 01's order, with single spaces between.
 ///

@@ -1,5 +1,6 @@
-//! The float state of a call. The proofs speak of IEEE 754 as a processor starts: round to nearest, denormals kept. Another library of
-//! the process may have set it otherwise, so each call sets that state and leaves the caller's as it was.
+//! The float state of a call. The proofs speak of IEEE 754 as a processor starts: round to nearest, denormals kept.
+//! Another library of the process may have set it otherwise, so each call sets that state and leaves the caller's as it
+//! was.
 
 use core::arch::asm;
 
@@ -8,6 +9,8 @@ compile_error!("gyroid_cells links a static library for x86-64, and knows the fl
 
 /// MXCSR as a processor starts: round to nearest, denormals kept, every exception masked and none flagged.
 const DEFAULT: u32 = 0x1F80;
+/// Its flags of past exceptions, on which no result depends.
+const FLAGS: u32 = 0x3F;
 
 fn read() -> u32 {
     let mut state = 0_u32;
@@ -17,8 +20,8 @@ fn read() -> u32 {
 }
 
 fn write(state: u32) {
-    // `state` is the default or was read from MXCSR, so it has none of the bits that the instruction does not take. Only a call of the
-    // library, which computes with doubles in its own code, stands between two of these.
+    // `state` is the default or was read from MXCSR, so it has none of the bits that the instruction does not take.
+    // Only a call of the library, which computes with doubles in its own code, stands between two of these.
     unsafe { asm!("ldmxcsr [{}]", in(reg) &raw const state, options(nostack)) };
 }
 
@@ -29,14 +32,19 @@ impl Caller {
     /// Keeps the state that is found and sets the default one.
     fn set_aside() -> Self {
         let caller = Self(read());
-        write(DEFAULT);
+        // A write takes longer than a test.
+        if caller.0 & !FLAGS != DEFAULT {
+            write(DEFAULT);
+        }
         caller
     }
 }
 
 impl Drop for Caller {
     fn drop(&mut self) {
-        write(self.0);
+        if read() != self.0 {
+            write(self.0);
+        }
     }
 }
 

@@ -1,5 +1,5 @@
-//! Lends slices to the static library, in the default float state, and reads its status. All that is unsafe in this crate stands here
-//! and in float_state.rs.
+//! Lends slices to the static library, in the default float state, and reads its status. All that is unsafe in this
+//! crate stands here and in float_state.rs.
 
 use crate::float_state::in_default;
 use crate::raw::{self, FOUND, NONE, OnDescription, OnSlice};

@@ -1,9 +1,9 @@
 //! The evaluation behind the marks of graded gyroid cells, proved in Rattle, for Rust programs.
 //!
-//! A core is a [`Description`] in whole ticks (1/1024 mm) and level counts (1/1024). Each call takes a description and compiles
-//! it; nothing is kept between calls, nothing is allocated, and every call ends. What a call cannot work on it refuses by a number:
-//! [`Refusal`]. Where a call may find nothing, it answers an [`Option`]. [`walk`] marks a whole part box and leaves its cells in a
-//! table that the caller lends.
+//! A core is a [`Description`] in whole ticks (1/1024 mm) and level counts (1/1024). Each call takes a description and
+//! compiles it; nothing is kept between calls, nothing is allocated, and every call ends. What a call cannot work on it
+//! refuses by a number: [`Refusal`]. Where a call may find nothing, it answers an [`Option`]. [`walk`] marks a whole
+//! part box and leaves its cells in a table that the caller lends.
 //!
 //! ```
 //! use gyroid_cells::{Description, Interval, State, box_state, residual};
@@ -22,12 +22,13 @@
 //! # Ok::<(), gyroid_cells::Refusal>(())
 //! ```
 //!
-//! The proofs speak of IEEE 754 as a processor starts, and another library of the process may have changed that: one built with
-//! `-ffast-math` does. So each call sets the default float state (MXCSR 0x1F80) for its time and restores the caller's, exception
-//! flags and all. The functions of [`raw`] do not.
+//! The proofs speak of IEEE 754 as a processor starts, and another library of the process may have changed that: one
+//! built with `-ffast-math` does. So each call sets the default float state (MXCSR 0x1F80) for its time and restores
+//! the caller's, exception flags and all. The functions of [`raw`] do not.
 //!
-//! The static library is made by `rt staticlib capi` in the project's root; the build runs that command where the library is
-//! missing. `GYROID_ARCHIVE_DIR` names another directory; a relative one is read from where cargo was started. bindings/gyroid.h has the same calls for C.
+//! The static library is made by `rt staticlib capi` in the project's root; the build runs that command where the
+//! library is missing. `GYROID_ARCHIVE_DIR` names another directory; a relative one is read from where cargo was
+//! started. bindings/gyroid.h has the same calls for C.
 #![no_std]
 #![warn(missing_docs)]
 

@@ -1,5 +1,5 @@
-//! The static library's functions as they are. bindings/gyroid.h says what each takes and answers. They compute in the float state
-//! that they find: who calls them sees to it that it is the default one.
+//! The static library's functions as they are. bindings/gyroid.h says what each takes and answers. They compute in the
+//! float state that they find: who calls them sees to it that it is the default one.
 //!
 //! ```
 //! use gyroid_cells::{Description, raw};
@@ -13,8 +13,8 @@
 //!
 //! # Safety
 //!
-//! Every pointer must be valid for the number of entries that follows it, for reading, and `out`, which is a walk's table, for
-//! writing; one with the number 0 may be anything. `out` must not overlap another slice.
+//! Every pointer must be valid for the number of entries that follows it, for reading, and `out`, which is a walk's
+//! table, for writing; one with the number 0 may be anything. `out` must not overlap another slice.
 
 /// A call on a description alone.
 pub type OnDescription<T> = unsafe extern "C" fn(*const i64, usize, *mut T, usize) -> u32;

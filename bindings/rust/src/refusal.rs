@@ -3,9 +3,11 @@
 use crate::UnknownNumber;
 use core::fmt;
 
-/// Why a call could not work on its input, by document 01's number, 1 to 13. The first that holds wins, in document 01's order.
+/// Why a call could not work on its input, by document 01's number, 1 to 13. The first that holds wins, in document
+/// 01's order.
 ///
-/// A number that was kept is read back; one that no call answers is none. 14 is the program `cells`' own: a text that is not its line.
+/// A number that was kept is read back; one that no call answers is none. 14 is the program `cells`' own: a text that
+/// is not its line.
 ///
 /// ```
 /// use gyroid_cells::Refusal;

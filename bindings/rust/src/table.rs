@@ -5,8 +5,8 @@ use crate::{Bounds, State};
 /// The bytes of a slot: a walk of n cells wants a table of n + 1 slots.
 pub const SLOT: usize = 32;
 
-/// A walk's table. [`walk`](crate::walk) answers one; [`Table::read`] makes one of bytes that were kept. A reference to it iterates
-/// over the cells.
+/// A walk's table. [`walk`](crate::walk) answers one; [`Table::read`] makes one of bytes that were kept. A reference to
+/// it iterates over the cells.
 ///
 /// ```
 /// use gyroid_cells::{Bounds, Description, State, walk};
@@ -69,8 +69,8 @@ impl<'a> Table<'a> {
         Self { bytes }
     }
 
-    /// The table in these bytes, or `None` where they hold no chain of as many cells as the head says. Bytes that are all zero, as a
-    /// walk refused by 13 leaves them, are a table without cells.
+    /// The table in these bytes, or `None` where they hold no chain of as many cells as the head says. Bytes that are
+    /// all zero, as a walk refused by 13 leaves them, are a table without cells.
     ///
     /// ```
     /// use gyroid_cells::{Bounds, Description, Table, walk};

@@ -66,8 +66,8 @@ pub struct Bounds {
 }
 
 impl Bounds {
-    /// The tick cubes in the box, or `None` where a low is above its high or the number does not fit 64 bits. Within document 01's
-    /// limits, lows at most highs, there is one: 2^63 at most.
+    /// The tick cubes in the box, or `None` where a low is above its high or the number does not fit 64 bits. Within
+    /// document 01's limits, lows at most highs, there is one: 2^63 at most.
     ///
     /// ```
     /// use gyroid_cells::Bounds;

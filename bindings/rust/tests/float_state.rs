@@ -1,4 +1,5 @@
-//! A caller in another float state gets the answers of the default one and finds its own state again, exception flags and all.
+//! A caller in another float state gets the answers of the default one and finds its own state again, exception flags
+//! and all.
 
 use gyroid_cells::*;
 use std::arch::asm;

@@ -1,5 +1,5 @@
-//! What the static library promises of a walk's lent slices: lengths are tested before all else, slices may start at any byte, a slice
-//! without entries may be null, and nothing beside the table is touched.
+//! What the static library promises of a walk's lent slices: lengths are tested before all else, slices may start at
+//! any byte, a slice without entries may be null, and nothing beside the table is touched.
 
 use crate::placed::Placed;
 use crate::{cases, ours};

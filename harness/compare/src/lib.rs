@@ -1,5 +1,5 @@
-//! The proved library beside the original Rust. Each module has one part of the comparison; the programs `ask`, `differ`, `list`
-//! and `bench` put them together.
+//! The proved library beside the original Rust. Each module has one part of the comparison; the programs `ask`,
+//! `differ`, `list` and `bench` put them together.
 
 pub mod added;
 pub mod boxes;
@@ -7,6 +7,7 @@ pub mod cases;
 pub mod chance;
 pub mod descriptions;
 pub mod entries;
+pub mod guard;
 pub mod lent_table;
 pub mod list;
 pub mod original;

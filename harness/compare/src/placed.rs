@@ -1,5 +1,5 @@
-//! Entries of 64 bits at an address of choice, to lend: the compiled library needs no alignment, and does not look at the address of a
-//! slice without entries.
+//! Entries of 64 bits at an address of choice, to lend: the compiled library needs no alignment, and does not look at
+//! the address of a slice without entries.
 
 /// Entries that start so many bytes past an address that is a multiple of 8.
 pub struct Placed {

@@ -1,5 +1,5 @@
-//! What the static library promises of lent slices: lengths are tested before all else, a slice without entries may be null, no address
-//! needs to be aligned, and nothing is written but found values. A walk's table has a file of its own.
+//! What the static library promises of lent slices: lengths are tested before all else, a slice without entries may be
+//! null, no address needs to be aligned, and nothing is written but found values. A walk's table has a file of its own.
 
 use crate::placed::Placed;
 use crate::{cases, lent_table};
@@ -33,8 +33,8 @@ fn first(length: usize, row: impl IntoIterator<Item = u64>) -> Vec<u64> {
     row.into_iter().chain([0; LENT]).take(length).collect()
 }
 
-/// Lends the first `length` entries of the description, the first `lent` of the argument, and all of `out`, as bits, each so many
-/// bytes past a multiple of 8.
+/// Lends the first `length` entries of the description, the first `lent` of the argument, and all of `out`, as bits,
+/// each so many bytes past a multiple of 8.
 pub fn lend(request: &Request, length: usize, lent: usize, out: &mut [u64], offset: usize) -> u32 {
     let bits = |entries: &[i64]| entries.iter().map(|n| *n as u64).collect::<Vec<_>>();
     let mut d = Placed::new(&first(length, bits(&request.description)), offset);

@@ -1,5 +1,5 @@
-//! Document 01's walk in plain Rust over the original's box state, which is all that the original has of it. The tree is walked twice:
-//! to count it, then to write it.
+//! Document 01's walk in plain Rust over the original's box state, which is all that the original has of it. The tree
+//! is walked twice: to count it, then to write it.
 
 use crate::added;
 use reference::Leaf;
@@ -154,7 +154,8 @@ mod tests {
         assert_eq!(asked(25, 63), Walked { status: 12, table: unwritten(63) });
     }
 
-    /// A fraction of the stand-in overflows on this description: only what document 01 accepts is given to the original.
+    /// A fraction of the stand-in overflows on this description: only what document 01 accepts is given to the
+    /// original.
     #[test]
     fn a_description_beyond_the_limits_is_refused_before_the_original_sees_it() {
         let line = format!("walk 1 0 1 0 {0} 0 {0} -{0} 0 0 1 1 0 0 0 0 0 0 0 0 0 1 1 1 0 64", i64::MAX);

@@ -1,14 +1,18 @@
-//! The walk's speed beside the original's, and the stack that it takes. Nothing here is a test.
+//! The walk's speed beside the original's, what the guard of the float state costs, and the stack that a walk takes. Nothing
+//! here is a test.
 
 use compare::race::{Race, cases, race};
-use compare::stack;
+use compare::{guard, stack};
 use std::process::ExitCode;
 use std::time::Duration;
 
-const HELP: &str = "bench: cells a second of whole walks, ours and the original's, and their ratio; then the stack of a walk of depth 24
+const HELP: &str = "bench: cells a second of whole walks, ours and the original's, and their ratio; then the time of one
+box_state by the bindings, which set the float state and restore it, and by the library itself; then the stack of a walk
+of depth 24
 
-Each walk is made five times by each side, in turns, and the best time of each counts. Both sides walk the tree twice, to count it and
-to write it. The original has no walk: a plain one over its box_state stands in. The tables are compared before anything is timed.";
+Each walk is made five times by each side, in turns, and the best time of each counts. Both sides walk the tree twice, to
+count it and to write it. The original has no walk: a plain one over its box_state stands in. The tables are compared
+before anything is timed.";
 
 fn a_second(cells: u32, time: Duration) -> f64 {
     f64::from(cells) / time.as_secs_f64()
@@ -38,6 +42,9 @@ fn bench() -> ExitCode {
     for (name, request) in cases() {
         all &= said(race(&request).map(|race| line(name, &race)), name);
     }
+    let cost = guard::cost();
+    let [guarded, plain] = [cost.guarded, cost.plain].map(|time| time.as_nanos());
+    println!("box_state: {guarded} ns a call by the bindings, {plain} ns without their guard of the float state");
     let taken = stack::measure().map(|bytes| format!("stack, depth 24: {bytes} bytes"));
     all &= said(taken, "stack");
     if all { ExitCode::SUCCESS } else { ExitCode::FAILURE }
