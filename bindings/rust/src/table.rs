@@ -3,6 +3,15 @@
 use crate::{Bounds, State};
 
 /// The bytes of a slot: a walk of n cells wants a table of n + 1 slots.
+///
+/// ```
+/// use gyroid_cells::{Bounds, Description, SLOT, walk};
+///
+/// let part = Bounds { low: [0; 3], high: [1024; 3] };
+/// let mut bytes = [0; (1 + 1) * SLOT];
+/// assert_eq!(walk(&Description::constant(10240, 2048), part, 0, &mut bytes)?.len(), 1);
+/// # Ok::<(), gyroid_cells::Refusal>(())
+/// ```
 pub const SLOT: usize = 32;
 
 /// A walk's table. [`walk`](crate::walk) answers one; [`Table::read`] makes one of bytes that were kept. A reference to
@@ -32,6 +41,18 @@ pub struct Table<'a> {
 }
 
 /// What slot 0 says.
+///
+/// ```
+/// use gyroid_cells::{Bounds, Description, Head, walk};
+///
+/// let part = Bounds { low: [0; 3], high: [1024; 3] };
+/// let mut bytes = [0; 96];
+/// let Head { cells, evaluated, solid, open, .. } =
+///     walk(&Description::constant(10240, 2048), part, 1, &mut bytes)?.head();
+/// assert_eq!((cells, evaluated), (2, 3));
+/// assert_eq!(Some(solid + open), part.volume());
+/// # Ok::<(), gyroid_cells::Refusal>(())
+/// ```
 #[derive(Clone, Copy, Debug, PartialEq, Eq, Hash)]
 pub struct Head {
     /// The slot of the first cell.
@@ -47,6 +68,16 @@ pub struct Head {
 }
 
 /// A box that the walk did not halve, and its mark.
+///
+/// ```
+/// use gyroid_cells::{Bounds, Cell, Description, State, walk};
+///
+/// let part = Bounds { low: [0; 3], high: [512, 1024, 1024] };
+/// let mut bytes = [0; 64];
+/// let table = walk(&Description::constant(10240, 2048), part, 24, &mut bytes)?;
+/// assert_eq!(table.cells().next(), Some(Cell { state: State::Inside, bounds: part }));
+/// # Ok::<(), gyroid_cells::Refusal>(())
+/// ```
 #[derive(Clone, Copy, Debug, PartialEq, Eq, Hash)]
 pub struct Cell {
     /// The mark.
@@ -56,6 +87,17 @@ pub struct Cell {
 }
 
 /// The cells along a table's chain.
+///
+/// ```
+/// use gyroid_cells::{Bounds, Cells, Description, walk};
+///
+/// let part = Bounds { low: [0; 3], high: [1024; 3] };
+/// let mut bytes = [0; 96];
+/// let cells: Cells = walk(&Description::constant(10240, 2048), part, 1, &mut bytes)?.cells();
+/// let volumes: Option<u64> = cells.map(|cell| cell.bounds.volume()).sum();
+/// assert_eq!(volumes, part.volume());
+/// # Ok::<(), gyroid_cells::Refusal>(())
+/// ```
 #[derive(Clone, Debug)]
 pub struct Cells<'a> {
     table: Table<'a>,

@@ -22,6 +22,13 @@ impl fmt::Display for UnknownNumber {
 impl core::error::Error for UnknownNumber {}
 
 /// Two doubles, in millimetres where they bound a box.
+///
+/// ```
+/// use gyroid_cells::{Description, Interval, State, box_state};
+///
+/// let half = Interval { lo: 0.0, hi: 0.5 };
+/// assert_eq!(box_state(&Description::constant(10240, 2048), [half; 3]), Ok(State::Inside));
+/// ```
 #[derive(Clone, Copy, Debug, PartialEq)]
 pub struct Interval {
     /// The low end.
@@ -57,6 +64,13 @@ impl Interval {
 }
 
 /// A closed box of whole ticks.
+///
+/// ```
+/// use gyroid_cells::{Bounds, Description, Piece, level_piece};
+///
+/// let millimetre = Bounds { low: [0; 3], high: [1024; 3] };
+/// assert_eq!(level_piece(&Description::constant(10240, 2048), millimetre), Ok(Some(Piece::Start)));
+/// ```
 #[derive(Clone, Copy, Debug, PartialEq, Eq, Hash)]
 pub struct Bounds {
     /// The low corner.
@@ -77,8 +91,10 @@ impl Bounds {
     /// assert_eq!(Bounds { low: [0; 3], high: [1, 1, -1] }.volume(), None);
     /// ```
     pub fn volume(&self) -> Option<u64> {
-        let spans = [0, 1, 2].map(|i| (self.low[i] <= self.high[i]).then(|| self.high[i].abs_diff(self.low[i])));
-        spans.into_iter().try_fold(1_u64, |product, span| product.checked_mul(span?))
+        let span = |i: usize| (self.low[i] <= self.high[i]).then(|| u128::from(self.high[i].abs_diff(self.low[i])));
+        // Two spans of 64 bits fit 128.
+        let face = span(0)? * span(1)?;
+        u64::try_from(face.checked_mul(span(2)?)?).ok()
     }
 }
 
@@ -148,6 +164,15 @@ impl fmt::Display for State {
 }
 
 /// A value and its gradient.
+///
+/// ```
+/// use gyroid_cells::{Description, Interval, Jet, jet};
+///
+/// let origin = [Interval::point(0.0); 3];
+/// let Some(Jet { value, gradient }) = jet(&Description::constant(10240, 0), origin)? else { unreachable!() };
+/// assert!(value.lo <= value.hi && gradient[2].lo > 0.0);
+/// # Ok::<(), gyroid_cells::Refusal>(())
+/// ```
 #[derive(Clone, Copy, Debug, PartialEq)]
 pub struct Jet {
     /// The value.
@@ -157,6 +182,17 @@ pub struct Jet {
 }
 
 /// First and second derivatives over a box.
+///
+/// ```
+/// use gyroid_cells::{Derivatives, Description, Interval, Piece, derivatives};
+///
+/// let origin = [Interval::point(0.0); 3];
+/// let found = derivatives(&Description::constant(10240, 0), origin, Piece::Start)?;
+/// let Some(Derivatives { gradient, hessian }) = found else { unreachable!() };
+/// assert!(gradient[1].lo > 0.0);
+/// assert!(hessian.as_flattened().iter().all(|entry| entry.lo <= entry.hi));
+/// # Ok::<(), gyroid_cells::Refusal>(())
+/// ```
 #[derive(Clone, Copy, Debug, PartialEq)]
 pub struct Derivatives {
     /// The gradient of g less the level.
@@ -166,6 +202,14 @@ pub struct Derivatives {
 }
 
 /// The least and the greatest level over a box, in level counts: two exact fractions over one denominator, not reduced.
+///
+/// ```
+/// use gyroid_cells::{Bounds, Description, Range, grade_range};
+///
+/// let all = Bounds { low: [0; 3], high: [1024; 3] };
+/// let range = grade_range(&Description::constant(10240, 2048), all);
+/// assert_eq!(range, Ok(Range { low: 2048, high: 2048, denominator: 1 }));
+/// ```
 #[derive(Clone, Copy, Debug, PartialEq, Eq, Hash)]
 pub struct Range {
     /// The least level's numerator.
@@ -177,6 +221,13 @@ pub struct Range {
 }
 
 /// The anchor planes of a ramp.
+///
+/// ```
+/// use gyroid_cells::{Description, Planes, planes};
+///
+/// let ramp = Description::linear(10240, [0; 3], [0, 0, 10240], -256, 256);
+/// assert_eq!(planes(&ramp), Ok(Some(Planes { axis: 2, from: 0, to: 10240 })));
+/// ```
 #[derive(Clone, Copy, Debug, PartialEq, Eq, Hash)]
 pub struct Planes {
     /// The axis that they are square to: 0, 1 or 2.

@@ -86,24 +86,28 @@ fn status(answer: &Answer) -> u32 {
     }
 }
 
-/// The status of a call with slices of these lengths at this offset, and all of `out` afterwards.
-fn lent(request: &Request, [length, lent, room]: [usize; 3], offset: usize) -> (u32, [u64; ROOM]) {
+/// The status of a call, and all of `out` afterwards.
+type Outcome = (u32, [u64; ROOM]);
+
+/// Lends slices of these lengths at an offset.
+fn outcome(request: &Request, [length, lent, room]: [usize; 3], offset: usize) -> Outcome {
     let mut out = [UNTOUCHED; ROOM];
     let status = lend(request, length, lent, &mut out[..room], offset);
     (status, out)
 }
 
-/// Lends slices of these lengths and says what is wrong with the status, or with what was written.
-fn wrong(request: &Request, lengths: [usize; 3], expected: u32, offset: usize) -> Option<String> {
-    let (status, out) = lent(request, lengths, offset);
+/// Lends slices of these lengths at every offset, and says what is wrong with the status, or with what was written.
+fn wrong(request: &Request, lengths: [usize; 3], expected: u32) -> Option<String> {
+    let outcomes = OFFSETS.map(|offset| outcome(request, lengths, offset));
+    let (status, out) = outcomes[0];
     let written = if expected == FOUND { values(request.call) } else { 0 };
     let left = out[written..].iter().all(|bits| *bits == UNTOUCHED);
     let made = out[..written].iter().all(|bits| *bits != UNTOUCHED);
-    let alike = (status, out) == lent(request, lengths, 0);
+    let alike = outcomes.iter().all(|outcome| *outcome == (status, out));
     (status != expected || !left || !made || !alike).then(|| {
         format!(
-            "{request}\n    lengths {lengths:?}, offset {offset}: status {status}, not {expected}; \
-             values written: {made}, the rest kept: {left}, all as at a multiple of 8: {alike}"
+            "{request}\n    lengths {lengths:?}: status {status}, not {expected}; \
+             values written: {made}, the rest kept: {left}, alike at every address: {alike}"
         )
     })
 }
@@ -148,7 +152,7 @@ pub fn check(call: Call, seed: u64) -> (u64, Vec<String>) {
     for request in requests {
         for (lengths, expected) in lengths(&request) {
             made += OFFSETS.len() as u64;
-            faults.extend(OFFSETS.iter().filter_map(|offset| wrong(&request, lengths, expected, *offset)));
+            faults.extend(wrong(&request, lengths, expected));
         }
     }
     (made, faults)
