@@ -40,7 +40,8 @@ fn states() -> Vec<u32> {
     states
 }
 
-/// A box that touches its mark at a denormal: unsettled, and outside where denormals are taken for zero.
+/// A ramp and a box on its start plane, where the ends of intervals about 0 are denormals. The box is unsettled; where
+/// denormals are taken for zero it is marked outside.
 const RAMP: ([i64; 3], [i64; 3]) = ([0; 3], [0, 0, 20480]);
 const PART: Bounds = Bounds { low: [1280, 8960, 0], high: [1440, 9280, 320] };
 
