@@ -5,7 +5,7 @@
  * The proofs speak of IEEE 754 as a processor starts: round to nearest, denormals kept, no exception traps. A thread
  * in another float state gets other numbers, and with them other marks. It need not be your own code that sets
  * another state: gcc links code that takes denormals for zero into a program built with -ffast-math, and up to
- * version 12 also into a shared object built so, which is enough to be loaded. So call in the default state:
+ * version 12 also into a shared object built so, and to load that is enough. So call in the default state:
  *
  *   uint32_t found = gyroid_float_state_enter();
  *   ... calls ...

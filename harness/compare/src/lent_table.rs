@@ -14,13 +14,13 @@ const LENGTHS: [[usize; 2]; 9] = [[18, 6], [17, 6], [19, 6], [0, 6], [18, 0], [1
 
 /// Lends the first entries of the description and of the bounds, and the table amid its margins.
 fn lend(request: &Request, [length, lent]: [usize; 2], around: &mut [u8]) -> u32 {
-    let first = |row: &[i64], length| row.iter().map(|n| *n as u64).chain([0]).take(length).collect::<Vec<_>>();
-    let mut d = Placed::new(&first(&request.description, length), 1);
-    let mut bounds = Placed::new(&first(&request.whole, lent), 1);
+    let more = |row: &[i64]| row.iter().map(|n| *n as u64).chain([0]).collect::<Vec<_>>();
+    let mut d = Placed::new(&more(&request.description), 1);
+    let mut bounds = Placed::new(&more(&request.whole), 1);
     let table = &mut around[MARGIN..][..request.table];
     let (at, room) = (if table.is_empty() { null_mut() } else { table.as_mut_ptr() }, table.len());
     // Every pointer is of as many entries as the length beside it says.
-    unsafe { raw::gyroid_walk(d.start(), d.count(), bounds.start(), bounds.count(), request.depth, at, room) }
+    unsafe { raw::gyroid_walk(d.first(length), length, bounds.first(lent), lent, request.depth, at, room) }
 }
 
 /// A table amid its margins.

@@ -19,7 +19,7 @@ fn jet(jet: Jet) -> Answer {
 /// A piece that is none has no name in the bindings, so the static library is asked itself.
 fn no_piece(request: &Request) -> u32 {
     let mut out = [0; 24];
-    crate::slices::lend(request, 18, 6, &mut out, 0)
+    crate::slices::lend(request, [18, 6, 24], &mut out, 0)
 }
 
 fn derivatives(request: &Request, d: &Description) -> Result<Option<Answer>, Refusal> {

@@ -27,28 +27,35 @@ fn values(call: Call) -> usize {
     }
 }
 
-/// The first entries of a row, as bits, and zeros beyond its end.
-fn first(length: usize, row: impl IntoIterator<Item = u64>) -> Vec<u64> {
-    assert!(length <= LENT);
-    row.into_iter().chain([0; LENT]).take(length).collect()
+/// Entries as bits, with zeros behind them.
+fn bits<const N: usize>(entries: [u64; N]) -> [u64; LENT] {
+    let mut out = [0; LENT];
+    out[..N].copy_from_slice(&entries);
+    out
 }
 
-/// Lends the first `length` entries of the description, the first `lent` of the argument, and all of `out`, as bits,
-/// each so many bytes past a multiple of 8.
-pub fn lend(request: &Request, length: usize, lent: usize, out: &mut [u64], offset: usize) -> u32 {
-    let bits = |entries: &[i64]| entries.iter().map(|n| *n as u64).collect::<Vec<_>>();
-    let mut d = Placed::new(&first(length, bits(&request.description)), offset);
-    let mut whole = Placed::new(&first(lent, bits(&request.whole)), offset);
-    let mut doubles = Placed::new(&first(lent, request.doubles.map(f64::to_bits)), offset);
-    let mut room = Placed::new(out, offset);
-    let status = call(request, &mut d, &mut whole, &mut doubles, &mut room);
-    out.copy_from_slice(&room.entries());
+/// Lends the first so many entries of the description, of the argument and of `out`, as bits, each so many bytes past a
+/// multiple of 8.
+pub fn lend(request: &Request, lengths: [usize; 3], out: &mut [u64], offset: usize) -> u32 {
+    let [length, lent, room] = lengths;
+    let mut d = Placed::new(&bits(request.description.map(|n| n as u64)), offset);
+    let mut whole = Placed::new(&bits(request.whole.map(|n| n as u64)), offset);
+    let mut doubles = Placed::new(&bits(request.doubles.map(f64::to_bits)), offset);
+    let mut left = Placed::new(out, offset);
+    // No length is above that of the entries that are placed.
+    let status = call(request, d.first(length), whole.first(lent), doubles.first(lent), left.first(room), lengths);
+    out.copy_from_slice(&left.entries());
     status
 }
 
-fn call(request: &Request, d: &mut Placed, whole: &mut Placed, doubles: &mut Placed, out: &mut Placed) -> u32 {
-    let (length, lent, room) = (d.count(), whole.count(), out.count());
-    let (d, whole, doubles, at) = (d.start(), whole.start(), doubles.start(), out.start::<u64>());
+fn call(
+    request: &Request,
+    d: *const i64,
+    whole: *const i64,
+    doubles: *const f64,
+    at: *mut u64,
+    [length, lent, room]: [usize; 3],
+) -> u32 {
     // Every pointer is of as many entries as the length beside it says; 64 bits are 64 bits in `out`.
     let alone_f = |call: OnDescription<f64>| unsafe { call(d, length, at.cast(), room) };
     let alone_i = |call: OnDescription<i64>| unsafe { call(d, length, at.cast(), room) };
@@ -90,10 +97,9 @@ fn status(answer: &Answer) -> u32 {
 type Outcome = (u32, [u64; ROOM]);
 
 /// Lends slices of these lengths at an offset.
-fn outcome(request: &Request, [length, lent, room]: [usize; 3], offset: usize) -> Outcome {
+fn outcome(request: &Request, lengths: [usize; 3], offset: usize) -> Outcome {
     let mut out = [UNTOUCHED; ROOM];
-    let status = lend(request, length, lent, &mut out[..room], offset);
-    (status, out)
+    (lend(request, lengths, &mut out, offset), out)
 }
 
 /// Lends slices of these lengths at every offset, and says what is wrong with the status, or with what was written.
