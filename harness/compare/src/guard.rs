@@ -1,5 +1,5 @@
-//! What the guard of the float state costs: a call of the bindings, which sets the default state and restores the caller's,
-//! beside the same call of the static library itself.
+//! What the guard of the float state costs: a call of the bindings, which sets the default state and restores the
+//! caller's, beside the same call of the static library itself.
 
 use crate::entries::PLAIN;
 use gyroid_cells::{Description, Interval, box_state, raw};

@@ -1,5 +1,5 @@
-//! The walk's speed beside the original's, what the guard of the float state costs, and the stack that a walk takes. Nothing
-//! here is a test.
+//! The walk's speed beside the original's, what the guard of the float state costs, and the stack that a walk takes.
+//! Nothing here is a test.
 
 use compare::race::{Race, cases, race};
 use compare::{guard, stack};
@@ -10,8 +10,8 @@ const HELP: &str = "bench: cells a second of whole walks, ours and the original'
 box_state by the bindings, which set the float state and restore it, and by the library itself; then the stack of a walk
 of depth 24
 
-Each walk is made five times by each side, in turns, and the best time of each counts. Both sides walk the tree twice, to
-count it and to write it. The original has no walk: a plain one over its box_state stands in. The tables are compared
+Each walk is made five times by each side, in turns, and the best time of each counts. Both sides walk the tree twice,
+to count it and to write it. The original has no walk: a plain one over its box_state stands in. The tables are compared
 before anything is timed.";
 
 fn a_second(cells: u32, time: Duration) -> f64 {
