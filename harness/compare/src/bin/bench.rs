@@ -6,7 +6,7 @@ use compare::{guard, stack};
 use std::process::ExitCode;
 use std::time::Duration;
 
-const HELP: &str = "bench: cells a second of whole walks, ours and the original's, and their ratio; then the time of one
+const HELP: &str = "bench: cells a second of whole walks, ours and the original's, and their ratio; then the time of a
 box_state by the bindings, which set the float state and restore it, and by the library itself; then the stack of a walk
 of depth 24
 
