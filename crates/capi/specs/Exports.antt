@@ -119,10 +119,12 @@ walkStatus ds ns D len = lengths (length ds) (length ns) 6 0 0 orElse walkNumber
 unfoldable pub walkLeft : List ℤ → List ℤ → ℤ → List ℕ → List ℕ
 walkLeft ds ns D t = cond (eqb (lengths (length ds) (length ns) 6 0 0) 0) (walkTable (description ds) (wholePoint ns 0) (wholePoint ns 3) D t) t
 
--- DEMAND 3 of it: what is supposed, with slices of the right lengths, and what it says of the bytes t that are left in the table
+-- DEMAND 3 of it: what is supposed of the slices, and what is said of the bytes t that are left in the table
 pub record WalkSupposed (ds ns : List ℤ) (D : ℤ) (len : ℕ) : Type 0 where
+  -- the entries of a description are lent, and three lows and three highs;
   pub entries : length ds ≡ 18
   pub ends : length ns ≡ 6
+  -- they and the table are as demand 3 supposes
   pub supposed : Supposed (description ds) (wholePoint ns 0) (wholePoint ns 3) D len
 
 abbrev pub WalkDemand : List ℤ → List ℤ → ℤ → List ℕ → Type 0
