@@ -14,7 +14,8 @@ use outward::larger;
 use outward::outward;
 use outward::smaller;
 
-// Two doubles, low ≤ high. Nothing enforces the order: a caller's doubles are tested where they come in.
+// Two doubles, low ≤ high. The type does not enforce the order: a caller's doubles are tested where they come in, and every operation keeps
+// it (proofs/Ordered.antt).
 pub struct Interval {
     pub lo: f64,
     pub hi: f64,
