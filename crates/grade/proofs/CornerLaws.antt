@@ -9,39 +9,45 @@ use lib.IntN.{ℤ, pos, _+ℤ_, _-ℤ_, _*ℤ_}
 use lib.Signed.{ltZ, ltZ-yes, ltZ-no, _≤ℤ_, _<ℤ_}
 use Rattle.exact.specs.Fraction.{Fraction, whole, _-F_, _*F_, _≤F_, _≈F_}
 use Rattle.exact.proofs.IntegerOrder.{<ℤ-le}
-use Rattle.exact.proofs.Fraction.{≤F-refl, ≤F-trans, ≈F-refl, ≈F-trans, ≈F-le, ≈F-ge, add-monoF, sub-monoF, mul-monoF, mul-antiF, commF, add-congF, mul-congF, whole-add, whole-sub, whole-mul}
+use Rattle.exact.proofs.Fraction.{≤F-refl, ≤F-trans, ≈F-refl, ≈F-trans, ≈F-le, ≈F-ge, add-monoF, sub-monoF, mul-monoF, mul-antiF}
+use Rattle.exact.proofs.Fraction.{commF, add-congF, mul-congF, whole-add, whole-sub, whole-mul}
 use Rattle.grade.specs.declared.Linear.{Linear}
 use Rattle.grade.specs.Grade.{at, minus, dot, Point, along}
 use Rattle.grade.specs.Exact.{leastEnd, greatestEnd, leastCorner, greatestCorner, leastAlong, greatestAlong}
 use Rattle.grade.specs.Holds.{InBox}
 use Rattle.grade.proofs.Axes.{three}
 
--- ---- one axis
-module _ (p : Fraction) (f d lo hi : ℤ) (above : whole lo ≤F p) (below : p ≤F whole hi) where
-  share : Fraction → Fraction
-  share q = (q -F whole f) *F whole d
+-- ---- one axis: its share of (p − from)·d
+abbrev share : ℤ → ℤ → Fraction → Fraction
+share f d q = (q -F whole f) *F whole d
 
-  rising : pos 0 <ℤ d → {a b : Fraction} → a ≤F b → share a ≤F share b
-  unfolding share
-  rising s {a} {b} h = ≤F-trans (≈F-le (commF (a -F whole f) (whole d))) (≤F-trans (mul-monoF (whole d) (<ℤ-le s) (sub-monoF h (≤F-refl (whole f)))) (≈F-le (commF (whole d) (b -F whole f))))
+rising : (f d : ℤ) → pos 0 <ℤ d → {a b : Fraction} → a ≤F b → share f d a ≤F share f d b
+rising f d s {a} {b} h =
+    ≤F-trans (≈F-le (commF (a -F whole f) (whole d)))
+    (≤F-trans (mul-monoF (whole d) (<ℤ-le s) (sub-monoF h (≤F-refl (whole f)))) (≈F-le (commF (whole d) (b -F whole f))))
 
-  falling : d ≤ℤ pos 0 → {a b : Fraction} → a ≤F b → share b ≤F share a
-  unfolding share
-  falling s {a} {b} h = ≤F-trans (≈F-le (commF (b -F whole f) (whole d))) (≤F-trans (mul-antiF (whole d) s (sub-monoF h (≤F-refl (whole f)))) (≈F-le (commF (whole d) (a -F whole f))))
+falling : (f d : ℤ) → d ≤ℤ pos 0 → {a b : Fraction} → a ≤F b → share f d b ≤F share f d a
+falling f d s {a} {b} h =
+    ≤F-trans (≈F-le (commF (b -F whole f) (whole d)))
+    (≤F-trans (mul-antiF (whole d) s (sub-monoF h (≤F-refl (whole f)))) (≈F-le (commF (whole d) (a -F whole f))))
 
-  axis-between : ((whole (leastEnd d lo hi) -F whole f) *F whole d ≤F (p -F whole f) *F whole d) × ((p -F whole f) *F whole d ≤F (whole (greatestEnd d lo hi) -F whole f) *F whole d)
-  unfolding share
-  axis-between = go (ltZ (pos 0) d) ltZ-yes ltZ-no
-    where
-      go : (b : Bool) → (T b → pos 0 <ℤ d) → (T (not b) → d ≤ℤ pos 0) → ((whole (cond b lo hi) -F whole f) *F whole d ≤F (p -F whole f) *F whole d) × ((p -F whole f) *F whole d ≤F (whole (cond b hi lo) -F whole f) *F whole d)
-      go true y n = (rising (y tt) above, rising (y tt) below)
-      go false y n = (falling (n tt) below, falling (n tt) above)
+-- between two ends
+abbrev Between : ℤ → ℤ → Fraction → ℤ → ℤ → Type 0
+Between f d p least greatest = (share f d (whole least) ≤F share f d p) × (share f d p ≤F share f d (whole greatest))
+
+axis-between : (p : Fraction) (f d lo hi : ℤ) → whole lo ≤F p → p ≤F whole hi → Between f d p (leastEnd d lo hi) (greatestEnd d lo hi)
+axis-between p f d lo hi above below = go (ltZ (pos 0) d) ltZ-yes ltZ-no
+  where
+    go : (b : Bool) → (T b → pos 0 <ℤ d) → (T (not b) → d ≤ℤ pos 0) → Between f d p (cond b lo hi) (cond b hi lo)
+    go true y n = (rising f d (y tt) above, rising f d (y tt) below)
+    go false y n = (falling f d (n tt) below, falling f d (n tt) above)
 
 -- ---- three axes
 -- at a whole point
 pub along-whole : (from d c : List ℤ) → along from d (λ i. whole (at c i)) ≈F whole (dot (minus c from) d)
 unfolding along dot minus
-along-whole from d c = ≈F-trans (add-congF (≈F-trans (add-congF (axis 0) (axis 1)) (whole-add (term 0) (term 1))) (axis 2)) (whole-add (term 0 +ℤ term 1) (term 2))
+along-whole from d c =
+    ≈F-trans (add-congF (≈F-trans (add-congF (axis 0) (axis 1)) (whole-add (term 0) (term 1))) (axis 2)) (whole-add (term 0 +ℤ term 1) (term 2))
   where
     term : ℕ → ℤ
     term i = (at c i -ℤ at from i) *ℤ at d i
@@ -50,17 +56,23 @@ along-whole from d c = ≈F-trans (add-congF (≈F-trans (add-congF (axis 0) (ax
     axis i = ≈F-trans (mul-congF (whole-sub (at c i) (at from i)) (≈F-refl (whole (at d i)))) (whole-mul (at c i -ℤ at from i) (at d i))
 
 module _ (g : Linear) (lo hi : List ℤ) (p : Point) (inside : InBox lo hi p) where
-  axes : (i : ℕ) → i < 3 → ((whole (leastEnd (at (g .direction) i) (at lo i) (at hi i)) -F whole (at (g .from) i)) *F whole (at (g .direction) i) ≤F (p i -F whole (at (g .from) i)) *F whole (at (g .direction) i))
-      × ((p i -F whole (at (g .from) i)) *F whole (at (g .direction) i) ≤F (whole (greatestEnd (at (g .direction) i) (at lo i) (at hi i)) -F whole (at (g .from) i)) *F whole (at (g .direction) i))
-  axes i l = axis-between (p i) (at (g .from) i) (at (g .direction) i) (at lo i) (at hi i) (inside .above i l) (inside .below i l)
+  abbrev d : ℕ → ℤ
+  d i = at (g .direction) i
+
+  axes : (i : ℕ) → i < 3 → Between (at (g .from) i) (d i) (p i) (leastEnd (d i) (at lo i) (at hi i)) (greatestEnd (d i) (at lo i) (at hi i))
+  axes i l = axis-between (p i) (at (g .from) i) (d i) (at lo i) (at hi i) (inside .above i l) (inside .below i l)
 
   pub along-least : whole (leastAlong g lo hi) ≤F along (g .from) (g .direction) p
   unfolding leastAlong along leastCorner
-  along-least = ≤F-trans (≈F-ge (along-whole (g .from) (g .direction) (leastCorner (g .direction) lo hi))) (add-monoF (add-monoF (axes 0 (lit< tt) .0) (axes 1 (lit< tt) .0)) (axes 2 (lit< tt) .0))
+  along-least =
+      ≤F-trans (≈F-ge (along-whole (g .from) (g .direction) (leastCorner (g .direction) lo hi)))
+      (add-monoF (add-monoF (axes 0 (lit< tt) .0) (axes 1 (lit< tt) .0)) (axes 2 (lit< tt) .0))
 
   pub along-greatest : along (g .from) (g .direction) p ≤F whole (greatestAlong g lo hi)
   unfolding greatestAlong along greatestCorner
-  along-greatest = ≤F-trans (add-monoF (add-monoF (axes 0 (lit< tt) .1) (axes 1 (lit< tt) .1)) (axes 2 (lit< tt) .1)) (≈F-le (along-whole (g .from) (g .direction) (greatestCorner (g .direction) lo hi)))
+  along-greatest =
+      ≤F-trans (add-monoF (add-monoF (axes 0 (lit< tt) .1) (axes 1 (lit< tt) .1)) (axes 2 (lit< tt) .1))
+      (≈F-le (along-whole (g .from) (g .direction) (greatestCorner (g .direction) lo hi)))
 
 -- each entry of either corner is an end of the box
 chosen-end : (c : Bool) (a b : ℤ) → (cond c a b ≡ a) ⊎ (cond c a b ≡ b)

@@ -112,7 +112,8 @@ module _ (g : Grade) (s : Sizes g) (apart : pos 0 <ℤ lengthSq g) where
             (over-cong (length-pos g apart) (≈F-trans (commF m (total /F 1048576)) (over-times total (lit< tt))))))
 
 -- ---- start + x (end − start)
-level-of-encloses : (g : Grade) → Sizes g → {x : Fraction} {X : Interval} → In 83 x X → In 91 (inUnits (rampLevel g x)) (levelOf (linearIntervals (numbers g)) X)
+level-of-encloses : (g : Grade) → Sizes g → {x : Fraction} {X : Interval} → In 83 x X
+    → In 91 (inUnits (rampLevel g x)) (levelOf (linearIntervals (numbers g)) X)
 unfolding levelOf linearIntervals linearOf
 level-of-encloses g s {x} h = equal-in same (add-encloses tt start (mul-encloses tt h (sub-encloses tt (unit-encloses 2 (g .end) tt (s .end .abs)) start)))
   where

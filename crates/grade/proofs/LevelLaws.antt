@@ -27,7 +27,8 @@ pub ramp-cong : (g : Grade) {x y : Fraction} → x ≈F y → rampLevel g x ≈F
 ramp-cong g e = add-congF (≈F-refl (whole (g .start))) (mul-congF e (≈F-refl (whole (g .end -ℤ g .start))))
 
 -- either way round
-pub ramp-mono : (g : Grade) {x y z : Fraction} → x ≤F y → y ≤F z → ((rampLevel g x ≤F rampLevel g y) × (rampLevel g y ≤F rampLevel g z)) ⊎ ((rampLevel g z ≤F rampLevel g y) × (rampLevel g y ≤F rampLevel g x))
+pub ramp-mono : (g : Grade) {x y z : Fraction} → x ≤F y → y ≤F z
+    → ((rampLevel g x ≤F rampLevel g y) × (rampLevel g y ≤F rampLevel g z)) ⊎ ((rampLevel g z ≤F rampLevel g y) × (rampLevel g y ≤F rampLevel g x))
 ramp-mono g {x} {y} {z} h k = elim (le-or-lt (pos 0) (g .end -ℤ g .start)) [
   | inl s ↦ inl (rising s h, rising s k)
   | inr s ↦ inr (falling (<ℤ-le s) k, falling (<ℤ-le s) h)
@@ -73,7 +74,8 @@ rise-zero g v =
     let (h, k) = both (leZ (g .start) (g .end)) (leZ (g .end) (g .start)) v in
     subst (λ (z : ℤ). z -ℤ g .start ≡ pos 0) (≤ℤ-antisym {a = g .start} {b = g .end} (leZ-yes h) (leZ-yes k)) (ring 1 (λ s. s ⊖ s) (λ s. lit (pos 0)) tt (g .start ∷ []))
 
-flat : (g : Grade) (x : Fraction) → T (not (isLinear g && not (eqZ (g .start) (g .end)))) → cond (isLinear g) (rampLevel g x) (whole (g .start)) ≈F whole (g .start)
+flat : (g : Grade) (x : Fraction) → T (not (isLinear g && not (eqZ (g .start) (g .end))))
+    → cond (isLinear g) (rampLevel g x) (whole (g .start)) ≈F whole (g .start)
 flat g x u = go (isLinear g) (eqZ (g .start) (g .end)) u refl
   where
     go : (b c : Bool) → T (not (b && not c)) → eqZ (g .start) (g .end) ≡ c → cond b (rampLevel g x) (whole (g .start)) ≈F whole (g .start)

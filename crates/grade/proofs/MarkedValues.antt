@@ -42,7 +42,8 @@ pub record LevelPart : Type 0 where
   pub limits : inLimits (ramp 0 (pos 0) (pos 0)) ≡ true
 
 pub level-part : LevelPart
-unfolding inLimits minus dot linearOf constantDef compiled leastCorner greatestCorner leastAlong greatestAlong levelOver linearRange range linearPiece exactPiece rangeRefusal rangeCall axis distance rise linearCertification certification
+unfolding inLimits minus dot linearOf constantDef compiled leastCorner greatestCorner leastAlong greatestAlong levelOver linearRange range
+    linearPiece exactPiece rangeRefusal rangeCall axis distance rise linearCertification certification
 level-part = record {
   length = refl;
   one = refl;

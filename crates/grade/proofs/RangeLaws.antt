@@ -3,7 +3,6 @@ use mathlib.Core.Path.{refl, sym, subst}
 use mathlib.Core.Logic.{_⊎_, inl, inr}
 use mathlib.Core.Bool.{not, _&&_}
 use mathlib.Core.List.{List}
-use Prim.Native.Nat.{_<_}
 use lib.Dec.{T}
 use lib.IntN.{ℤ, pos, natAbs}
 use lib.Signed.{ltZ, ltZ-yes, ltZ-no, _≤ℤ_, _<ℤ_, ≤ℤ-refl}
@@ -14,7 +13,8 @@ use Rattle.exact.proofs.Fraction.{≤F-trans, ≈F-sym, ≈F-trans, ≈F-le, �
 use Rattle.exact.proofs.FractionSize.{held-mono, held-cong}
 use Rattle.grade.specs.declared.Grade.{Grade}
 use Rattle.grade.specs.Grade.{at, eqZ, isLinear, direction, lengthSq, Point, along, t, rampLevel, level}
-use Rattle.grade.specs.Exact.{linearOf, numbers, constantDef, compiled, leastCorner, greatestCorner, leastAlong, greatestAlong, levelOver, boundsOf, linearRange, range}
+use Rattle.grade.specs.Exact.{linearOf, numbers, constantDef, compiled}
+use Rattle.grade.specs.Exact.{leastCorner, greatestCorner, leastAlong, greatestAlong, levelOver, boundsOf, linearRange, range}
 use Rattle.grade.specs.Refusals.{coincident}
 use Rattle.grade.specs.Holds.{Taken, RangeHolds}
 use Rattle.grade.proofs.Accepted.{linear-apart, by-kind}
@@ -65,7 +65,8 @@ module _ (g : Grade) (linear : T (isLinear g)) (apart : pos 0 <ℤ lengthSq g) w
     low-corner = record {
       corner = leastCorner (direction g) lo hi;
       ends = least-ends (direction g) lo hi;
-      value = at-whole (λ i. whole (at (leastCorner (direction g) lo hi) i)) (leastAlong (numbers g) lo hi) (along-whole (g .from) (direction g) (leastCorner (direction g) lo hi));
+      value = at-whole (λ i. whole (at (leastCorner (direction g) lo hi) i)) (leastAlong (numbers g) lo hi)
+          (along-whole (g .from) (direction g) (leastCorner (direction g) lo hi));
     }
 
     high-corner : Taken g lo hi (whole (levelOver (numbers g) (greatestAlong (numbers g) lo hi)) /F natAbs (lengthSq g))
@@ -73,12 +74,9 @@ module _ (g : Grade) (linear : T (isLinear g)) (apart : pos 0 <ℤ lengthSq g) w
     high-corner = record {
       corner = greatestCorner (direction g) lo hi;
       ends = greatest-ends (direction g) lo hi;
-      value = at-whole (λ i. whole (at (greatestCorner (direction g) lo hi) i)) (greatestAlong (numbers g) lo hi) (along-whole (g .from) (direction g) (greatestCorner (direction g) lo hi));
+      value = at-whole (λ i. whole (at (greatestCorner (direction g) lo hi) i)) (greatestAlong (numbers g) lo hi)
+          (along-whole (g .from) (direction g) (greatestCorner (direction g) lo hi));
     }
-      where
-        swap : {A B : Type 0} → A ⊎ B → B ⊎ A
-        swap (inl a) = inr a
-        swap (inr b) = inl b
 
     -- what stands over L, in order
     over : {x z : ℤ} → x ≤ℤ z → whole x /F natAbs (lengthSq g) ≤F whole z /F natAbs (lengthSq g)
@@ -88,7 +86,7 @@ module _ (g : Grade) (linear : T (isLinear g)) (apart : pos 0 <ℤ lengthSq g) w
     unfolding linearRange linearOf
     linear-holds = record {
       ordered = ≤ℤ-trans (low-left a b (lengthSq g)) (high-left a b (lengthSq g));
-      holds = λ p i. elim (at-between p (leastAlong (numbers g) lo hi) (greatestAlong (numbers g) lo hi) (along-least (numbers g) lo hi p i) (along-greatest (numbers g) lo hi p i)) [
+      holds = λ p i. elim (at-between p least greatest (along-least (numbers g) lo hi p i) (along-greatest (numbers g) lo hi p i)) [
         | inl s ↦ (≤F-trans (over (low-left a b (lengthSq g))) (s .0), ≤F-trans (s .1) (over (high-right a b (lengthSq g))))
         | inr s ↦ (≤F-trans (over (low-right a b (lengthSq g))) (s .0), ≤F-trans (s .1) (over (high-left a b (lengthSq g))))
       ];
@@ -96,6 +94,12 @@ module _ (g : Grade) (linear : T (isLinear g)) (apart : pos 0 <ℤ lengthSq g) w
       high-taken = choose (ltZ b a) a b (λ z. Taken g lo hi (whole z /F natAbs (lengthSq g))) (λ _. low-corner) (λ _. high-corner);
     }
       where
+        least : ℤ
+        least = leastAlong (numbers g) lo hi
+
+        greatest : ℤ
+        greatest = greatestAlong (numbers g) lo hi
+
         a : ℤ
         a = levelOver (numbers g) (leastAlong (numbers g) lo hi)
 

@@ -44,7 +44,8 @@ pub exchanged : (g : Linear) (lo hi : List ℤ) → leastAlong g hi lo ≡ great
 unfolding leastCorner greatestCorner leastAlong greatestAlong
 exchanged g lo hi = refl
 
-pub greatest-along-within : (g : Linear) → LinearFits g → {lo hi : List ℤ} → Within3 1048576 lo → Within3 1048576 hi → Within 13194139533312 (greatestAlong g lo hi)
+pub greatest-along-within : (g : Linear) → LinearFits g → {lo hi : List ℤ} → Within3 1048576 lo → Within3 1048576 hi
+    → Within 13194139533312 (greatestAlong g lo hi)
 greatest-along-within g f {lo} {hi} h k = subst (Within 13194139533312) (exchanged g lo hi) (least-along-within g f k h)
 
 pub distance-within : (g : Linear) → LinearFits g → Within 6291456 (distance g)

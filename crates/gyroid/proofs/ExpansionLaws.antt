@@ -60,7 +60,9 @@ curved-in : {x y z : Fraction} {X Y Z : Interval} → In 12 x X → In 12 y Y �
 unfolding curvedOf
 curved-in x y z = add-encloses tt (add-encloses tt (add-encloses tt (add-encloses tt (add-encloses tt (square-encloses tt x) (square-encloses tt y)) (square-encloses tt z)) (mul-encloses tt x y)) (mul-encloses tt y z)) (mul-encloses tt z x)
 
-module _ (d : Description) (above : pos 0 <ℤ d .period) (lo hi : List ℤ) (low-in : Within3 1048576 lo) (high-in : Within3 1048576 hi) (h : Chosen d lo hi) (p : Point) (inside : InBox lo hi p) where
+module _
+    (d : Description) (above : pos 0 <ℤ d .period) (lo hi : List ℤ) (low-in : Within3 1048576 lo) (high-in : Within3 1048576 hi)
+    (h : Chosen d lo hi) (p : Point) (inside : InBox lo hi p) where
   -- the radii as fractions, in millimetres
   abbrev r : ℕ → Fraction
   r i = value (radius (ends lo hi i))

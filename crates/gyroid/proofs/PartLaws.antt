@@ -74,7 +74,10 @@ module _ (g : Gyroid) (w : List Interval) where
 
   pub expansion-joined : (level : Interval) (slope : List Interval) → expansion g w level slope ≡ expansionOf g x y z level slope
   unfolding expansion expanded allFinite jet waves centre radii part joinedAbout
-  expansion-joined level slope = go (endsWithin greatestDouble (boxAt w 0)) (endsWithin greatestDouble (boxAt w 1)) (endsWithin greatestDouble (boxAt w 2)) (turn g (product (point (mid (boxAt w 0))) (g .turns))) (turn g (product (point (mid (boxAt w 1))) (g .turns))) (turn g (product (point (mid (boxAt w 2))) (g .turns)))
+  expansion-joined level slope =
+      go (endsWithin greatestDouble (boxAt w 0)) (endsWithin greatestDouble (boxAt w 1)) (endsWithin greatestDouble (boxAt w 2))
+      (turn g (product (point (mid (boxAt w 0))) (g .turns))) (turn g (product (point (mid (boxAt w 1))) (g .turns)))
+      (turn g (product (point (mid (boxAt w 2))) (g .turns)))
     where
       go : (a b c : Bool) (p q r : Turn) → cond (not (a && b && c)) None (expanded (g .«wave_squared») (jetOf (wavesOf p q r) (g .wave)) level slope (radii w)) ≡ expansionOf g (partBy a p g 0 (boxAt w 0)) (partBy b q g 1 (boxAt w 1)) (partBy c r g 2 (boxAt w 2)) level slope
       go false b c p q r = refl

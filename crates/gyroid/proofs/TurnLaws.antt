@@ -152,7 +152,9 @@ module _ (d : Description) {t w : Fraction} {I : Interval} (h : In 23 t I) (betw
   unfolding turn leaf
   turn-holds = go (not (reducible I)) (beyond U) (λ near. near-in (reduced-in h between) near)
     where
-      go : (x y : Bool) → (T (not y) → In 0 u U) → Sound (cond x Turn.None (cond y Turn.None (float.turned (modFour (quarterNumber (mid I))) (sineAt (leaf d) U) (cosineAt (leaf d) U)))) (turnedBy (modFour (quarterNumber (mid I))) (sinePolynomial u +F e) (cosinePolynomial u +F f))
+      go : (x y : Bool) → (T (not y) → In 0 u U)
+          → Sound (cond x Turn.None (cond y Turn.None (float.turned (modFour (quarterNumber (mid I))) (sineAt (leaf d) U) (cosineAt (leaf d) U))))
+          (turnedBy (modFour (quarterNumber (mid I))) (sinePolynomial u +F e) (cosinePolynomial u +F f))
       go true y n = tt
       go false true n = tt
       go false false n = turned-in (modFour (quarterNumber (mid I))) (sine-in (n tt)) (cosine-in (n tt))
