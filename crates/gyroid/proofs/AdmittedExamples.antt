@@ -22,7 +22,8 @@ use Rattle.gyroid.specs.declared.Description.{Description}
 use Rattle.gyroid.specs.Description.{inLimits, frameInLimits, partFrame}
 use Rattle.gyroid.specs.Refusals.{refusal}
 use Rattle.gyroid.specs.Fits.{Accepted}
-use Rattle.gyroid.specs.Admitted.{tickBox, sinePolynomial, cosinePolynomial, sineTail, cosineTail, turnedBy, Chosen, quarter, waves, admitted}
+use Rattle.gyroid.specs.Admitted.{tickBox, AtTick, sinePolynomial, cosinePolynomial, sineTail, cosineTail, turnedBy, Chosen, quarter}
+use Rattle.gyroid.specs.Admitted.{waves, admitted}
 
 abbrev description : Description
 description = record {
@@ -49,6 +50,11 @@ limits = (tt, tt)
 bits : tickBox (pos 0 ∷ pos 0 ∷ pos 0 ∷ []) (pos 512 ∷ pos 1024 ∷ pos 1024 ∷ []) ≡ record { lo = b64 0; hi = b64 0x3fe0_0000_0000_0000 } ∷ record { lo = b64 0; hi = b64 0x3ff0_0000_0000_0000 } ∷ record { lo = b64 0; hi = b64 0x3ff0_0000_0000_0000 } ∷ []
 unfolding ofBits round
 bits = refl
+
+-- −0 is the tick 0 too
+minus-zero : AtTick (b64 0x8000_0000_0000_0000) (pos 0)
+unfolding ofBits _/F_
+minus-zero = record { finite = tt; value = record { eq = refl } }
 
 quarters : (quarter description lows highs 0 ≡ pos 1) × (quarter description lows highs 1 ≡ pos 2) × (quarter description lows highs 2 ≡ negsuc 0)
 unfolding ofBits toBits isNan neg add mul lt round nextUp nextDown product mid fromRational quarterNumber
