@@ -75,9 +75,10 @@ passed d e =
     let (b, e) = none-first (leZ (d .period) (pos 0)) 1 (refused (eqZ (d .kind) (pos 1)) 3 orElse points) e in
     let (_, e) = none-first (eqZ (d .kind) (pos 1)) 2 points e in
     let (p, _) = none-first (coincident (d .level)) 1 (refused (isDistance (d .level)) 3) e in
-    let (h, _) = both (tick (d .period) && leZ (pos 0) (d .kind) && leZ (d .kind) (pos 1) && grade.inLimits (d .level)) (frameInLimits (d .frame)) (kept (inLimits d) a) in
-    let (h, l) = both (tick (d .period) && leZ (pos 0) (d .kind) && leZ (d .kind) (pos 1)) (grade.inLimits (d .level)) h in
-    let (h, _) = both (tick (d .period) && leZ (pos 0) (d .kind)) (leZ (d .kind) (pos 1)) h in
+    let kinds = tick (d .period) && leZ (pos 0) (d .kind) && leZ (d .kind) (pos 2) in
+    let (h, _) = both (kinds && grade.inLimits (d .level)) (frameInLimits (d .frame)) (kept (inLimits d) a) in
+    let (h, l) = both kinds (grade.inLimits (d .level)) h in
+    let (h, _) = both (tick (d .period) && leZ (pos 0) (d .kind)) (leZ (d .kind) (pos 2)) h in
     let (t, _) = both (tick (d .period)) (leZ (pos 0) (d .kind)) h in
     record { period = tick-within (d .period) t; above = not-most (d .period) b; level = record { passed = l }; apart = p; fits = compiled-fits (d .level) (record { passed = l }) p }
 

@@ -39,7 +39,8 @@ use Rattle.gyroid.specs.Refusals.{endsWithin, greatestDouble, allFinite}
 use Rattle.gyroid.specs.Leaf.{turns, leaf}
 use Rattle.gyroid.specs.Turn.{turn}
 use Rattle.gyroid.specs.Jet.{wavesOf, waves, jetOf, jet}
-use Rattle.gyroid.specs.Residual.{centre, radius, radii, expanded, expansion, levelAt, lessLevel, residualOn, residualBy, residual, stateOf, boxState}
+use Rattle.gyroid.specs.Residual.{centre, radius, radii, secondOrder, expanded, expansion}
+use Rattle.gyroid.specs.Residual.{levelAt, lessLevel, residualOn, residualBy, residual, stateOf, boxState}
 use Rattle.gyroid.specs.Admitted.{tickBox, AtTick, OfTicks}
 use Rattle.gyroid.proofs.AcceptedLaws.{Passed, accepted}
 use Rattle.gyroid.proofs.CentreLaws.{over-binary, tick-exact}
@@ -110,7 +111,8 @@ module _
 
   jet-same : jet (leaf d) (centre w) ≡ jet (leaf d) (centre v)
   unfolding jet waves leaf
-  jet-same = λ k. jetOf (wavesOf (at-turn (turn-same 0 (lit< tt) k)) (at-turn (turn-same 1 (lit< tt) k)) (at-turn (turn-same 2 (lit< tt) k))) (leaf d .wave)
+  jet-same = λ k. jetOf (leaf d .surface)
+      (wavesOf (at-turn (turn-same 0 (lit< tt) k)) (at-turn (turn-same 1 (lit< tt) k)) (at-turn (turn-same 2 (lit< tt) k))) (leaf d .wave)
     where
       at-turn : Interval → Turn
       at-turn t = turn (leaf d) t
@@ -144,7 +146,8 @@ module _
   -- ---- the residual
   expansion-same : (level : Interval) (slope : List Interval) → expansion (leaf d) w level slope ≡ expansion (leaf d) v level slope
   unfolding expansion
-  expansion-same level slope = λ k. cond (not (finite-same k)) None (expanded (leaf d .«wave_squared») (jet-same k) level slope (radii-same k))
+  expansion-same level slope = λ k. cond (not (finite-same k)) None
+      (expanded (secondOrder (leaf d .surface) (leaf d .«wave_squared») (radii-same k)) (jet-same k) level slope (radii-same k))
 
   level-same : (p : Piece) → levelAt (leaf d .intervals) p (centre w) ≡ levelAt (leaf d .intervals) p (centre v)
   unfolding leaf

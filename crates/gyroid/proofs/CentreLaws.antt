@@ -25,9 +25,11 @@ use Rattle.grade.specs.Grade.{at, Point}
 use Rattle.grade.specs.Fits.{Within3}
 use Rattle.grade.specs.Holds.{InBox}
 use Rattle.grade.specs.Extended.{inUnits}
+use Rattle.grade.specs.Intervals.{boxAt}
 use Rattle.grade.proofs.AxisLaws.{within-at}
-use Rattle.gyroid.specs.Residual.{radius}
-use Rattle.gyroid.specs.Admitted.{centreAt, halfWidth, ends}
+use Rattle.grade.proofs.Axes.{three}
+use Rattle.gyroid.specs.Residual.{radius, radii}
+use Rattle.gyroid.specs.Admitted.{centreAt, halfWidth, ends, tickBox}
 
 -- ---- halves
 pub doubled : (x : Fraction) → (x +F x) /F 2 ≈F x
@@ -132,3 +134,10 @@ module _ (lo hi : List ℤ) (low-in : Within3 1048576 lo) (high-in : Within3 104
 
     pub centre-below : centreAt lo hi i ≤F whole (at hi i)
     centre-below = ≤F-trans (≈F-le centre-sum) (≤F-trans (over-mono (lit< tt) (add-monoF (≤F-trans (inside .above i b) (inside .below i b)) (≤F-refl (whole (at hi i))))) (≈F-le (doubled (whole (at hi i)))))
+
+-- ---- the three radii
+pub radii-in : (lo hi : List ℤ) → Within3 1048576 lo → Within3 1048576 hi
+    → (i : ℕ) → i < 3 → In 12 (value (radius (ends lo hi i))) (boxAt (radii (tickBox lo hi)) i)
+unfolding radii
+radii-in lo hi low-in high-in = three (λ i. In 12 (value (radius (ends lo hi i))) (boxAt (radii (tickBox lo hi)) i))
+    (radius-in lo hi low-in high-in 0 (lit< tt)) (radius-in lo hi low-in high-in 1 (lit< tt)) (radius-in lo hi low-in high-in 2 (lit< tt))

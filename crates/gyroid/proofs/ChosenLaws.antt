@@ -24,25 +24,15 @@ use Rattle.gyroid.specs.declared.Description.{Description}
 use Rattle.gyroid.specs.declared.State.{State}
 use Rattle.gyroid.specs.Fits.{Accepted}
 use Rattle.gyroid.specs.Leaf.{leaf}
-use Rattle.gyroid.specs.Residual.{boxState}
-use Rattle.gyroid.specs.Admitted.{halfWidth, tickBox, bracket, Chosen, wave, admitted, Settles}
-use Rattle.gyroid.proofs.CentreLaws.{doubled}
-use Rattle.gyroid.proofs.ExpansionLaws.{bracket-scaled}
+use Rattle.gyroid.specs.Residual.{bracketAt, boxState}
+use Rattle.gyroid.specs.Admitted.{halfWidth, tickBox, bracketOf, surface, Chosen, wave}
+use Rattle.gyroid.specs.Settles.{Settles, Some}
+use Rattle.gyroid.proofs.BracketLaws.{Bracket, bracket-of}
 use Rattle.gyroid.proofs.EnclosureLaws.{state-settles}
 
 -- ---- zero is a choice for each error and for e
 zero-within : {a : Fraction} → zeroF ≤F a → AbsF zeroF a
 zero-within h = abs-of-nonneg (≤F-refl zeroF) h
-
--- twice the bracket is (x + y)² + (y + z)² + (z + x)²
-bracket-nonneg : (x y z : Fraction) → zeroF ≤F bracket x y z
-bracket-nonneg x y z = ≤F-trans (≈F-ge (over-zero (lit< tt))) (≤F-trans (over-mono (lit< tt) squares) (≈F-le (doubled (bracket x y z))))
-  where
-    squares : zeroF ≤F bracket x y z +F bracket x y z
-    squares = ≤F-trans (≈F-le (ringF 3 (λ x y z. lit (pos 0)) (λ x y z. lit (pos 0) ⊕ lit (pos 0) ⊕ lit (pos 0)) tt (x ∷ y ∷ z ∷ [])))
-        (≤F-trans (add-monoF (add-monoF (square-nonneg (x +F y)) (square-nonneg (y +F z))) (square-nonneg (z +F x)))
-        (≈F-le (ringF 3 (λ x y z. (x ⊕ y) ⊗ (x ⊕ y) ⊕ (y ⊕ z) ⊗ (y ⊕ z) ⊕ (z ⊕ x) ⊗ (z ⊕ x))
-        (λ x y z. x ⊗ x ⊕ y ⊗ y ⊕ z ⊗ z ⊕ x ⊗ y ⊕ y ⊗ z ⊕ z ⊗ x ⊕ (x ⊗ x ⊕ y ⊗ y ⊕ z ⊗ z ⊕ x ⊗ y ⊕ y ⊗ z ⊕ z ⊗ x)) tt (x ∷ y ∷ z ∷ []))))
 
 two-pi-between : value (twoPi .lo) ∈ twoPi
 unfolding ofBits
@@ -58,11 +48,14 @@ chosen d lo hi = record {
   w-between = two-pi-between;
   sine-within = λ i b. zero-within (num-nonneg (leZ-yes tt));
   cosine-within = λ i b. zero-within (num-nonneg (leZ-yes tt));
-  e-within = zero-within (≤F-trans (bracket-nonneg (k *F r 0) (k *F r 1) (k *F r 2)) (≈F-ge (bracket-scaled k (r 0) (r 1) (r 2))));
+  e-within = zero-within (≤F-trans (law .nonneg (k *F r 0) (k *F r 1) (k *F r 2)) (≈F-ge (law .scaled k (r 0) (r 1) (r 2))));
 }
   where
     k : Fraction
     k = wave d lo hi (value (twoPi .lo))
+
+    law : Bracket (bracketOf (surface d lo hi)) (bracketAt (surface d lo hi))
+    law = bracket-of (surface d lo hi)
 
     r : ℕ → Fraction
     r i = halfWidth lo hi i
@@ -78,13 +71,6 @@ corner-inside lo hi t =
     }
 
 -- ---- so a settled box has an admitted residual, of the sign that its state says
--- some admitted residual of the box has the property P
-pub record Some (d : Description) (lo hi : List ℤ) (P : Fraction → Type 0) : Type 0 where
-  pub p : Point
-  pub inside : InBox lo hi p
-  pub chosen : Chosen d lo hi
-  pub says : P (admitted d lo hi chosen p)
-
 module _ (d : Description) (none : Accepted d) (lo hi : List ℤ) (low-ticks : T (ticks lo)) (high-ticks : T (ticks hi)) (order : T (not (above lo hi))) where
   abbrev corner : Point
   corner i = whole (at lo i)

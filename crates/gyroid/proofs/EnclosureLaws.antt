@@ -26,11 +26,13 @@ use Rattle.gyroid.specs.declared.State.{State}
 use Rattle.gyroid.specs.Fits.{Accepted}
 use Rattle.gyroid.specs.Leaf.{leaf}
 use Rattle.gyroid.specs.Residual.{centre, residual, stateOf, boxState}
-use Rattle.gyroid.specs.Admitted.{centreAt, ends, tickBox, Chosen, wave, g, factor, admitted, Holds, Settles}
+use Rattle.gyroid.specs.Admitted.{centreAt, ends, tickBox, Chosen, wave, g, factor, admitted}
+use Rattle.gyroid.specs.Settles.{Holds, Settles}
 use Rattle.gyroid.proofs.AcceptedLaws.{Passed, accepted}
 use Rattle.gyroid.proofs.CentreLaws.{centre-in, point-in, centre-above, centre-below}
-use Rattle.gyroid.proofs.JetLaws.{perMillimetre, same-wave}
-use Rattle.gyroid.proofs.ExpansionLaws.{expansion-holds}
+use Rattle.gyroid.proofs.JetLaws.{perMillimetre, same-wave, jet-holds}
+use Rattle.gyroid.proofs.BracketLaws.{term-holds}
+use Rattle.gyroid.proofs.ExpansionLaws.{Expands, expansion-holds}
 use Rattle.gyroid.proofs.ResidualLaws.{Has, equal-has, residual-has}
 
 module _ (d : Description) (passed : Passed d) (lo hi : List ℤ) (low-in : Within3 1048576 lo) (high-in : Within3 1048576 hi) where
@@ -72,9 +74,15 @@ module _ (d : Description) (passed : Passed d) (lo hi : List ℤ) (low-in : With
         step : (i : ℕ) → f i *F (k *F o i) ≈F f i *F (wave d lo hi (h .w) *F (p i -F centreAt lo hi i))
         step i = mul-congF (≈F-refl (f i)) (same-wave d (passed .above) (h .w) (p i -F centreAt lo hi i))
 
+    expands : Expands (leaf d) (tickBox lo hi) (g d lo hi h) (λ i. f i *F k) (h .e) o
+    unfolding leaf
+    expands = expansion-holds (leaf d) lo hi low-in high-in p inside (g d lo hi h) (h .e) (λ i. f i *F k)
+        (jet-holds d (passed .above) lo hi low-in high-in h) (term-holds d (passed .above) lo hi low-in high-in h p inside)
+
     admitted-has : Has (residual (leaf d) (tickBox lo hi)) (admitted d lo hi h p)
     admitted-has = equal-has form (admitted d lo hi h p) in-ticks (residual (leaf d) (tickBox lo hi))
-        (residual-has d passed (tickBox lo hi) p (centreAt lo hi) (box-in p inside) (box-in (centreAt lo hi) centre-inside) middle-in (g d lo hi h) (h .e) (λ i. f i *F k) (expansion-holds d (passed .above) lo hi low-in high-in h p inside))
+        (residual-has d passed (tickBox lo hi) p (centreAt lo hi) (box-in p inside) (box-in (centreAt lo hi) centre-inside) middle-in
+        (g d lo hi h) (h .e) (λ i. f i *F k) expands)
 
 -- ---- THE THEOREM
 module _ (d : Description) (none : Accepted d) (lo hi : List ℤ) (low-ticks : T (ticks lo)) (high-ticks : T (ticks hi)) where

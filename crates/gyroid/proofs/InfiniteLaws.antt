@@ -14,7 +14,8 @@ use Rattle.gyroid.specs.declared.Residual.the-variants.{None}
 use Rattle.gyroid.specs.declared.State.the-variants.{Unsettled}
 use Rattle.gyroid.specs.Refusals.{allFinite}
 use Rattle.gyroid.specs.Jet.{jet}
-use Rattle.gyroid.specs.Residual.{centre, radii, expanded, expansion, lessLevel, residualOn, residualBy, residual, affineBy, affineResidual, stateOf, boxState}
+use Rattle.gyroid.specs.Residual.{centre, radii, secondOrder, expanded, expansion}
+use Rattle.gyroid.specs.Residual.{lessLevel, residualOn, residualBy, residual, affineBy, affineResidual, stateOf, boxState}
 
 -- ---- where the expansion is none, whatever the level
 module _ (g : Gyroid) (w : List Interval) (none : (level : Interval) (slope : List Interval) → expansion g w level slope ≡ None) where
@@ -35,7 +36,8 @@ module _ (g : Gyroid) (w : List Interval) (t : T (not (allFinite w))) where
   unfolding expansion
   expansion-none level slope = go (not (allFinite w)) t
     where
-      go : (b : Bool) → T b → cond b None (expanded (g .«wave_squared») (jet g (centre w)) level slope (radii w)) ≡ None
+      go : (b : Bool) → T b
+          → cond b None (expanded (secondOrder (g .surface) (g .«wave_squared») (radii w)) (jet g (centre w)) level slope (radii w)) ≡ None
       go true u = refl
       go false u = absurd u
 

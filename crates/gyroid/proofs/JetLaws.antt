@@ -11,10 +11,11 @@ use Rattle.exact.proofs.Size.{size-above}
 use Rattle.exact.proofs.Ring.{_⊗_}
 use Rattle.exact.proofs.FractionRing.{ringF}
 use Rattle.exact.proofs.Fraction.{≈F-refl, ≈F-sym, ≈F-trans, commF, mul-congF, over-is, over-cong, over-mul, over-times, over-whole}
+use Rattle.interval.specs.declared.Interval.{Interval}
 use Rattle.interval.specs.Interval.{point, product, mid, twoPi}
 use Rattle.interval.specs.Encloses.{_∈_}
 use Rattle.interval.proofs.Membership.{In, equal-in, wider}
-use Rattle.interval.proofs.Encloses.{add-encloses, sub-encloses, mul-encloses, square-encloses, fraction-encloses}
+use Rattle.interval.proofs.Encloses.{add-encloses, sub-encloses, mul-encloses, neg-encloses, square-encloses, fraction-encloses}
 use Rattle.grade.specs.Intervals.{boxAt}
 use Rattle.grade.specs.Fits.{Within3}
 use Rattle.grade.specs.Extended.{inUnits}
@@ -22,12 +23,13 @@ use Rattle.grade.proofs.Axes.{three}
 use Rattle.gyroid.specs.declared.Description.{Description}
 use Rattle.gyroid.specs.declared.Turn.{Turn}
 use Rattle.gyroid.specs.declared.Jet.{Jet}
+use Rattle.gyroid.specs.declared.Surface.{Surface}
 use Rattle.gyroid.specs.Leaf.{turns, leaf}
 use Rattle.gyroid.specs.Turn.{turn}
 use Rattle.gyroid.specs.Jet as float
-use Rattle.gyroid.specs.Jet.{wavesOf, valueAt, crossed, gradientAt, jetOf, jet}
+use Rattle.gyroid.specs.Jet.{wavesOf, valueAt, entryAt, gradientAt, jetOf, jet}
 use Rattle.gyroid.specs.Residual.{centre}
-use Rattle.gyroid.specs.Admitted.{centreAt, ends, tickBox, Chosen, waves, g, factor}
+use Rattle.gyroid.specs.Admitted.{centreAt, ends, tickBox, valueOf, factorOf, surface, Chosen, waves, s, c, g, factor}
 use Rattle.gyroid.proofs.CentreLaws.{centre-in}
 use Rattle.gyroid.proofs.TurnLaws.{Sound, two-pi-in, turn-holds}
 
@@ -80,21 +82,48 @@ module _ (d : Description) (above : pos 0 <ℤ d .period) where
     abbrev k : Fraction
     k = h .w *F perMillimetre
 
-    found-holds : (x y z : Turn) → Sound x (waves d lo hi h 0) → Sound y (waves d lo hi h 1) → Sound z (waves d lo hi h 2) → JetHolds (jetOf (wavesOf x y z) (leaf d .wave)) (g d lo hi h) (λ i. factor d lo hi h i *F k)
-    unfolding valueAt gradientAt crossed
+    -- the value and the gradient of each surface, from the sines and cosines
+    module _
+        {sx cx sy cy sz cz : Interval} (X : Sound (Turn.Found sx cx) (waves d lo hi h 0))
+        (Y : Sound (Turn.Found sy cy) (waves d lo hi h 1)) (Z : Sound (Turn.Found sz cz) (waves d lo hi h 2)) where
+      value-holds : (f : Surface) → In 100 (valueOf f (s d lo hi h) (c d lo hi h)) (valueAt f sx cx sy cy sz cz)
+      unfolding valueAt
+      value-holds Surface.Network = wider 100 tt (add-encloses tt (add-encloses tt (mul-encloses tt (X .0) (Y .1)) (mul-encloses tt (Y .0) (Z .1)))
+          (mul-encloses tt (Z .0) (X .1)))
+      value-holds Surface.Primitive = wider 100 tt (add-encloses tt (add-encloses tt (X .1) (Y .1)) (Z .1))
+
+      -- a factor of size 80, times the wave
+      by-wave : {t : Fraction} {v : Interval} → In 80 t v → In 100 (t *F k) (product v (leaf d .wave))
+      by-wave t = wider 100 tt (mul-encloses tt t (wave-in (h .w-between)))
+
+      abbrev Entry : Surface → ℕ → Type 0
+      Entry f i = In 100 (factorOf f (s d lo hi h) (c d lo hi h) i *F k) (boxAt (gradientAt f sx cx sy cy sz cz (leaf d .wave)) i)
+
+      gradient-holds : (f : Surface) (i : ℕ) → i < 3 → Entry f i
+      unfolding gradientAt entryAt
+      gradient-holds Surface.Network = three (Entry Surface.Network)
+          (by-wave (wider 80 tt (sub-encloses tt (mul-encloses tt (X .1) (Y .1)) (mul-encloses tt (Z .0) (X .0)))))
+          (by-wave (wider 80 tt (sub-encloses tt (mul-encloses tt (Y .1) (Z .1)) (mul-encloses tt (X .0) (Y .0)))))
+          (by-wave (wider 80 tt (sub-encloses tt (mul-encloses tt (Z .1) (X .1)) (mul-encloses tt (Y .0) (Z .0)))))
+      gradient-holds Surface.Primitive = three (Entry Surface.Primitive)
+          (by-wave (wider 80 tt (neg-encloses (X .0)))) (by-wave (wider 80 tt (neg-encloses (Y .0)))) (by-wave (wider 80 tt (neg-encloses (Z .0))))
+
+    abbrev Found : Turn → Turn → Turn → Type 0
+    Found x y z = JetHolds (jetOf (surface d lo hi) (wavesOf x y z) (leaf d .wave)) (g d lo hi h) (λ i. factor d lo hi h i *F k)
+
+    found-holds : (x y z : Turn) → Sound x (waves d lo hi h 0) → Sound y (waves d lo hi h 1) → Sound z (waves d lo hi h 2) → Found x y z
     found-holds Turn.None y z X Y Z = record { value = λ t. absurd t; gradient = λ t. absurd t }
     found-holds (Turn.Found sx cx) Turn.None z X Y Z = record { value = λ t. absurd t; gradient = λ t. absurd t }
     found-holds (Turn.Found sx cx) (Turn.Found sy cy) Turn.None X Y Z = record { value = λ t. absurd t; gradient = λ t. absurd t }
     found-holds (Turn.Found sx cx) (Turn.Found sy cy) (Turn.Found sz cz) X Y Z = record {
-      value = λ _. wider 100 tt (add-encloses tt (add-encloses tt (mul-encloses tt (X .0) (Y .1)) (mul-encloses tt (Y .0) (Z .1))) (mul-encloses tt (Z .0) (X .1)));
-      gradient = λ _. three (λ i. In 100 (factor d lo hi h i *F k) (boxAt (gradientAt sx cx sy cy sz cz (leaf d .wave)) i))
-          (wider 100 tt (mul-encloses tt (sub-encloses tt (mul-encloses tt (X .1) (Y .1)) (mul-encloses tt (Z .0) (X .0))) (wave-in (h .w-between))))
-          (wider 100 tt (mul-encloses tt (sub-encloses tt (mul-encloses tt (Y .1) (Z .1)) (mul-encloses tt (X .0) (Y .0))) (wave-in (h .w-between))))
-          (wider 100 tt (mul-encloses tt (sub-encloses tt (mul-encloses tt (Z .1) (X .1)) (mul-encloses tt (Y .0) (Z .0))) (wave-in (h .w-between))));
+      value = λ _. value-holds X Y Z (surface d lo hi);
+      gradient = λ _. gradient-holds X Y Z (surface d lo hi);
     }
 
     -- THE FACT
     pub jet-holds : JetHolds (jet (leaf d) (centre (tickBox lo hi))) (g d lo hi h) (λ i. factor d lo hi h i *F k)
     unfolding jet float.waves centre leaf
-    jet-holds = found-holds (turn (leaf d) (product (point (mid (ends lo hi 0))) (turns d))) (turn (leaf d) (product (point (mid (ends lo hi 1))) (turns d))) (turn (leaf d) (product (point (mid (ends lo hi 2))) (turns d)))
-        (wave-holds 0 (lit< tt)) (wave-holds 1 (lit< tt)) (wave-holds 2 (lit< tt))
+    jet-holds = found-holds (at 0) (at 1) (at 2) (wave-holds 0 (lit< tt)) (wave-holds 1 (lit< tt)) (wave-holds 2 (lit< tt))
+      where
+        at : ℕ → Turn
+        at i = turn (leaf d) (product (point (mid (ends lo hi i))) (turns d))

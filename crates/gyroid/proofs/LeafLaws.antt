@@ -12,7 +12,7 @@ use Rattle.gyroid.specs.declared.Description.{Description}
 use Rattle.gyroid.specs.declared.Compiled.{Compiled}
 use Rattle.gyroid.specs.declared.Gyroid.{Gyroid}
 use Rattle.gyroid.specs.Refusals.{refusal}
-use Rattle.gyroid.specs.Leaf.{leaf}
+use Rattle.gyroid.specs.Leaf.{surfaceOf, leaf}
 use Rattle.gyroid.specs.Constructors.{certified}
 use Rattle.gyroid.proofs.AcceptedLaws.{Passed}
 
@@ -24,6 +24,10 @@ number-is d e = ap (λ (c : Compiled). c .refusal) e
 pub leaf-is : (d : Description) {m : Compiled} → m ≡ certified d → refusal d ≡ 0 → m .leaf ≡ leaf d
 unfolding certified
 leaf-is d e z = ap (λ (c : Compiled). c .leaf) e ∙ rw z refl
+
+pub surface-is : (d : Description) {m : Compiled} → m ≡ certified d → refusal d ≡ 0 → m .leaf .surface ≡ surfaceOf (d .kind)
+unfolding leaf
+surface-is d e z = ap (λ (g : Gyroid). g .surface) (leaf-is d e z)
 
 pub leaf-grade : (d : Description) → leaf d .grade ≡ compiled (d .level)
 unfolding leaf

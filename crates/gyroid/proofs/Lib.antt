@@ -12,6 +12,7 @@ pub mod ChosenLaws
 mod CentreLaws
 mod TurnLaws
 mod JetLaws
+mod BracketLaws
 mod ExpansionLaws
 mod ResidualLaws
 -- one axis at a time: the three parts of a box joined are its residual
@@ -23,3 +24,4 @@ pub mod AlikeLaws
 mod TurnSizes
 -- worked by computation
 mod AdmittedExamples
+mod MarkExamples

@@ -22,7 +22,7 @@ use Rattle.gyroid.specs.declared.Residual.the-variants.{None}
 use Rattle.gyroid.specs.Refusals.{endsWithin, greatestDouble, allFinite}
 use Rattle.gyroid.specs.Turn.{turn}
 use Rattle.gyroid.specs.Jet.{wavesOf, waves, jetOf, jet}
-use Rattle.gyroid.specs.Residual.{centre, radii, held, expanded, expansion, levelAt, residualOn, residualBy, residual, stateOf, boxState}
+use Rattle.gyroid.specs.Residual.{centre, radii, secondOrder, held, expanded, expansion, levelAt, residualOn, residualBy, residual, stateOf, boxState}
 use Rattle.gyroid.specs.Parts.{sharesBy, shares, noPart, partOf, part, centreLevel, aboutOn, aboutAt, aboutBy, levelAbout, joinedAbout, lessRange, joinedOf, joined}
 use Rattle.gyroid.proofs.InfiniteLaws.{none-residual}
 
@@ -49,7 +49,7 @@ allFound x y z = x .found && y .found && z .found
 
 -- the surface less the level, about the centre
 abbrev about : Gyroid → Part → Part → Part → Interval → List Interval → Interval
-about g x y z level slope = joinedAbout (g .wave) (g .«wave_squared») x y z level slope
+about g x y z level slope = joinedAbout (g .surface) (g .wave) (g .«wave_squared») x y z level slope
 
 abbrev pub expansionOf : Gyroid → Part → Part → Part → Interval → List Interval → Residual
 expansionOf g x y z level slope = cond (not (allFound x y z)) None (held (about g x y z level slope))
@@ -73,13 +73,18 @@ module _ (g : Gyroid) (w : List Interval) where
   z = part g 2 (boxAt w 2)
 
   pub expansion-joined : (level : Interval) (slope : List Interval) → expansion g w level slope ≡ expansionOf g x y z level slope
-  unfolding expansion expanded allFinite jet waves centre radii part joinedAbout
+  unfolding expansion expanded secondOrder allFinite jet waves centre radii part joinedAbout
   expansion-joined level slope =
       go (endsWithin greatestDouble (boxAt w 0)) (endsWithin greatestDouble (boxAt w 1)) (endsWithin greatestDouble (boxAt w 2))
       (turn g (product (point (mid (boxAt w 0))) (g .turns))) (turn g (product (point (mid (boxAt w 1))) (g .turns)))
       (turn g (product (point (mid (boxAt w 2))) (g .turns)))
     where
-      go : (a b c : Bool) (p q r : Turn) → cond (not (a && b && c)) None (expanded (g .«wave_squared») (jetOf (wavesOf p q r) (g .wave)) level slope (radii w)) ≡ expansionOf g (partBy a p g 0 (boxAt w 0)) (partBy b q g 1 (boxAt w 1)) (partBy c r g 2 (boxAt w 2)) level slope
+      term : Interval
+      term = secondOrder (g .surface) (g .«wave_squared») (radii w)
+
+      go : (a b c : Bool) (p q r : Turn)
+          → cond (not (a && b && c)) None (expanded term (jetOf (g .surface) (wavesOf p q r) (g .wave)) level slope (radii w))
+          ≡ expansionOf g (partBy a p g 0 (boxAt w 0)) (partBy b q g 1 (boxAt w 1)) (partBy c r g 2 (boxAt w 2)) level slope
       go false b c p q r = refl
       go true false c (Turn.Found s d) q r = refl
       go true false c Turn.None q r = refl

@@ -1,10 +1,16 @@
--- THE ADMITTED RESIDUAL: document 01's paragraph in "Jet and residual", sentence by sentence, its words in quotes; and what a residual and a
--- state say of all of them. Lengths are in ticks, levels in level counts. "These .. are fractions of whole numbers, as p is, and comparisons
--- are multiplied out." Definitions only; assumes nothing.
+-- THE ADMITTED RESIDUAL: document 01's paragraph in "Jet and residual", sentence by sentence, its words in quotes, and document 02's L1: "The
+-- admitted residual takes this g, gradient and bound." Lengths are in ticks, levels in level counts. "These .. are fractions of whole numbers,
+-- as p is, and comparisons are multiplied out." Definitions only; assumes nothing.
 --
--- The number, in document 01's symbols:
+-- The number, in document 01's symbols, of the network (kind 0)
 --
 --     g + k[(cx·cy−sz·sx)(px−mx) + (cy·cz−sx·sy)(py−my) + (cz·cx−sy·sz)(pz−mz)] + e − level(p)/1024        admitted
+--
+-- and of the primitive surface (kind 2), the gradient being document 02's "−k sin X, −k sin Y, −k sin Z",
+--
+--     g + k[(−sx)(px−mx) + (−sy)(py−my) + (−sz)(pz−mz)] + e − level(p)/1024                               admitted
+--
+-- Of either:
 --
 --     p        a rational point of the box                                                               p : Point
 --     m, r     the box's centre and half-widths                                                          centreAt, halfWidth
@@ -15,10 +21,13 @@
 --     u        (m/a − q/4)w                                                                              angle
 --     s, c     the polynomials of u plus errors, turned by q mod 4                                       s, c (waves, turnedBy)
 --     errors   any within the tails (4/5)^19/19! and (4/5)^18/18!                                        Chosen .sine-error, .cosine-error
---     g        sx·cy + sy·cz + sz·cx                                                                     g
---     (..)     what k(p−m) is multiplied by on each axis                                                 factor
---     e        any of size at most k²(Σ r² + rx·ry + ry·rz + rz·rx)                                      Chosen .e (bracket)
 --     level    in level counts                                                                           level, of the grade layer
+--
+-- By the surface, the network's and then the primitive surface's:
+--
+--     g        sx·cy + sy·cz + sz·cx, and cx + cy + cz                                                   g (valueOf)
+--     (..)     what k(p−m) is multiplied by on each axis, as above                                       factor (factorOf)
+--     e        any of size at most k²(Σ r² + rx·ry + ry·rz + rz·rx), and k²(Σ r²)/2                      Chosen .e (bracketOf)
 use mathlib.Core.Bool.{cond}
 use mathlib.Core.List.{List, [], _∷_}
 use Prim.Native.Nat.{ℕ, zero, suc, _<_}
@@ -26,7 +35,7 @@ use lib.Dec.{T, eqb}
 use lib.IntN.{ℤ, natAbs, _+ℤ_, _-ℤ_}
 use lib.Ieee.{Float}
 use lib.Ieee.Scale.{finite}
-use Rattle.exact.specs.Fraction.{Fraction, whole, zeroF, oneF, _+F_, _-F_, _*F_, _/F_, negF, _<F_, _≈F_, AbsF}
+use Rattle.exact.specs.Fraction.{Fraction, whole, oneF, _+F_, _-F_, _*F_, _/F_, negF, _≈F_, AbsF}
 use Rattle.interval.specs.declared.Interval.{Interval}
 use Rattle.interval.specs.Interval.{point, product, mid, twoPi}
 use Rattle.interval.specs.Nearest.{nearest}
@@ -35,11 +44,9 @@ use Rattle.interval.specs.Series.{sineTerm, cosineTerm, tail}
 use Rattle.interval.specs.Encloses.{value, _∈_}
 use Rattle.grade.specs.Grade.{at, Point, level}
 use Rattle.grade.specs.Intervals.{boxAt}
-use Rattle.grade.specs.Holds.{InBox}
 use Rattle.gyroid.specs.declared.Description.{Description}
-use Rattle.gyroid.specs.declared.Residual.{Residual}
-use Rattle.gyroid.specs.declared.State.{State}
-use Rattle.gyroid.specs.Leaf.{turns}
+use Rattle.gyroid.specs.declared.Surface.{Surface}
+use Rattle.gyroid.specs.Leaf.{surfaceOf, turns}
 use Rattle.gyroid.specs.Turn.{quarterOf}
 
 -- ---- "a box with centre m and half-widths r", by its lows and highs
@@ -96,11 +103,28 @@ turnedBy n s c =
     (cond (eqb n 2) (negF s, negF c)
     (negF c, s)))
 
--- Σ r² + rx·ry + ry·rz + rz·rx
-abbrev pub bracket : Fraction → Fraction → Fraction → Fraction
-bracket x y z = x *F x +F y *F y +F z *F z +F x *F y +F y *F z +F z *F x
+-- ---- what a surface gives, from the sines s and the cosines c at the centre
+-- its value there: "g = sx·cy + sy·cz + sz·cx", and "cos X + cos Y + cos Z"
+abbrev pub valueOf : Surface → (ℕ → Fraction) → (ℕ → Fraction) → Fraction
+valueOf Surface.Network s c = s 0 *F c 1 +F s 1 *F c 2 +F s 2 *F c 0
+valueOf Surface.Primitive s c = c 0 +F c 1 +F c 2
+
+-- what k(p−m) is multiplied by on each axis: cx·cy−sz·sx, cy·cz−sx·sy, cz·cx−sy·sz, and −sx, −sy, −sz
+abbrev pub factorOf : Surface → (ℕ → Fraction) → (ℕ → Fraction) → ℕ → Fraction
+factorOf Surface.Network s c zero = c 0 *F c 1 -F s 2 *F s 0
+factorOf Surface.Network s c (suc zero) = c 1 *F c 2 -F s 0 *F s 1
+factorOf Surface.Network s c (suc (suc i)) = c 2 *F c 0 -F s 1 *F s 2
+factorOf Surface.Primitive s c i = negF (s i)
+
+-- what k² is multiplied by in the bound of e: "Σ r² + rx·ry + ry·rz + rz·rx", and "(Σ r²)/2"
+abbrev pub bracketOf : Surface → Fraction → Fraction → Fraction → Fraction
+bracketOf Surface.Network x y z = x *F x +F y *F y +F z *F z +F x *F y +F y *F z +F z *F x
+bracketOf Surface.Primitive x y z = (x *F x +F y *F y +F z *F z) /F 2
 
 module _ (d : Description) (lo hi : List ℤ) where
+  abbrev pub surface : Surface
+  surface = surfaceOf (d .kind)
+
   -- a
   abbrev pub period : ℕ
   period = natAbs (d .period)
@@ -118,7 +142,7 @@ module _ (d : Description) (lo hi : List ℤ) where
   angle w i = (centreAt lo hi i /F period -F whole (quarter i) /F 4) *F w
 
   -- "choose any w between the `two_pi` ends and, for each axis, errors within the exact tails"; and "any e of size at most
-  -- k²(Σ r² + rx·ry + ry·rz + rz·rx)"
+  -- k²(Σ r² + rx·ry + ry·rz + rz·rx)", for which the primitive surface has "k²(Σ r²)/2"
   pub record Chosen : Type 0 where
     pub w : Fraction
     pub sine-error : ℕ → Fraction
@@ -127,7 +151,7 @@ module _ (d : Description) (lo hi : List ℤ) where
     pub w-between : w ∈ twoPi
     pub sine-within : (i : ℕ) → i < 3 → AbsF (sine-error i) sineTail
     pub cosine-within : (i : ℕ) → i < 3 → AbsF (cosine-error i) cosineTail
-    pub e-within : AbsF e (wave w *F wave w *F bracket (halfWidth lo hi 0) (halfWidth lo hi 1) (halfWidth lo hi 2))
+    pub e-within : AbsF e (wave w *F wave w *F bracketOf surface (halfWidth lo hi 0) (halfWidth lo hi 1) (halfWidth lo hi 2))
 
   -- "s and c are the exact polynomials plus errors, turned by q mod 4"
   unfoldable pub waves : Chosen → ℕ → Fraction × Fraction
@@ -139,15 +163,11 @@ module _ (d : Description) (lo hi : List ℤ) where
   abbrev pub c : Chosen → ℕ → Fraction
   c h i = waves h i .1
 
-  -- the surface's value at the centre, in document 01 "and g = sx·cy + sy·cz + sz·cx"
   abbrev pub g : Chosen → Fraction
-  g h = s h 0 *F c h 1 +F s h 1 *F c h 2 +F s h 2 *F c h 0
+  g h = valueOf surface (s h) (c h)
 
-  -- what k(p−m) is multiplied by on each axis: cx·cy−sz·sx, cy·cz−sx·sy, cz·cx−sy·sz
   abbrev pub factor : Chosen → ℕ → Fraction
-  factor h zero = c h 0 *F c h 1 -F s h 2 *F s h 0
-  factor h (suc zero) = c h 1 *F c h 2 -F s h 0 *F s h 1
-  factor h (suc (suc i)) = c h 2 *F c h 0 -F s h 1 *F s h 2
+  factor h = factorOf surface (s h) (c h)
 
   -- "the number is g + k[(cx·cy−sz·sx)(px−mx) + (cy·cz−sx·sy)(py−my) + (cz·cx−sy·sz)(pz−mz)] + e − level(p)/1024, level(p) being in level counts"
   unfoldable pub admitted : Chosen → Point → Fraction
@@ -156,13 +176,3 @@ module _ (d : Description) (lo hi : List ℤ) where
       +F wave (h .w) *F (factor h 0 *F (p 0 -F centreAt lo hi 0) +F factor h 1 *F (p 1 -F centreAt lo hi 1) +F factor h 2 *F (p 2 -F centreAt lo hi 2))
       +F h .e
       -F level (d .level) p /F 1024
-
-  -- ---- what an answer says: "every enclosure that holds them all", at every rational point of the box, its faces included
-  abbrev pub Holds : Residual → Type 0
-  Holds (Residual.Enclosure low high) = (p : Point) → InBox lo hi p → (h : Chosen) → admitted h p ∈ record { lo = low; hi = high }
-  Holds Residual.None = Unit {0}
-
-  abbrev pub Settles : State → Type 0
-  Settles State.Inside = (p : Point) → InBox lo hi p → (h : Chosen) → admitted h p <F zeroF
-  Settles State.Outside = (p : Point) → InBox lo hi p → (h : Chosen) → zeroF <F admitted h p
-  Settles State.Unsettled = Unit {0}

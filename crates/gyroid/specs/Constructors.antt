@@ -9,13 +9,14 @@ use Rattle.interval.specs.declared.Interval.{Interval}
 use Rattle.interval.specs.Step.{b64}
 use Rattle.grade.specs.Exact.{constantDef}
 use Rattle.grade.specs.Intervals.{gradeIntervals, zero}
+use Rattle.gyroid.specs.declared.Surface.the-variants.{Network}
 use Rattle.gyroid.specs.declared.Description.{Description}
 use Rattle.gyroid.specs.declared.Gyroid.{Gyroid}
 use Rattle.gyroid.specs.declared.Compiled.{Compiled}
 use Rattle.gyroid.specs.Refusals.{refusal}
 use Rattle.gyroid.specs.Leaf.{leaf}
 
--- ---- of a refused description the leaf is all zero, its grade the constant 0
+-- ---- of a refused description the leaf is all zero, its surface the network, its grade the constant 0
 abbrev zeros9 : List Interval
 zeros9 = zero ∷ zero ∷ zero ∷ zero ∷ zero ∷ zero ∷ zero ∷ zero ∷ zero ∷ []
 
@@ -36,6 +37,7 @@ noLeaf = record {
   «fast_lipschitz» = b64 0;
   grade = constantDef (pos 0);
   intervals = gradeIntervals (constantDef (pos 0));
+  surface = Network;
 }
 
 -- "`Gyroid::certified` is the reference"

@@ -13,9 +13,9 @@ use Rattle.gyroid.specs.declared.Description.{Description}
 unfoldable pub frameInLimits : Frame → Bool
 frameInLimits f = tick (f .w) && tick (f .x) && tick (f .y) && tick (f .z) && ticks (f .translation)
 
--- "kind (0 network, 1 sheet)", "Limits bind unused entries too."
+-- "kind (0 network, 1 sheet)", "Limits bind unused entries too."; and "Refusal 1 now admits kind 2."
 unfoldable pub inLimits : Description → Bool
-inLimits d = tick (d .period) && leZ (pos 0) (d .kind) && leZ (d .kind) (pos 1) && grade.inLimits (d .level) && frameInLimits (d .frame)
+inLimits d = tick (d .period) && leZ (pos 0) (d .kind) && leZ (d .kind) (pos 2) && grade.inLimits (d .level) && frameInLimits (d .frame)
 
 abbrev pub origin : List ℤ
 origin = pos 0 ∷ pos 0 ∷ pos 0 ∷ []

@@ -3,8 +3,9 @@ use mathlib.Core.Bool.{true, false, cond, not}
 use mathlib.Core.List.{List, [], _∷_}
 use Prim.Native.Nat.{ℕ}
 use Rattle.interval.specs.declared.Interval.{Interval}
-use Rattle.interval.specs.Interval.{sum, difference, product}
+use Rattle.interval.specs.Interval.{sum, difference, product, negation}
 use Rattle.grade.specs.Intervals.{boxAt, zero, zeros, affine, gradient}
+use Rattle.gyroid.specs.declared.Surface.{Surface}
 use Rattle.gyroid.specs.declared.Gyroid.{Gyroid}
 use Rattle.gyroid.specs.declared.Turn.{Turn}
 use Rattle.gyroid.specs.declared.Waves.{Waves}
@@ -21,27 +22,35 @@ wavesOf (Turn.Found sx cx) (Turn.Found sy cy) (Turn.Found sz cz) = Waves.Found s
 unfoldable pub waves : Gyroid → List Interval → Waves
 waves g p = wavesOf (turn g (product (boxAt p 0) (g .turns))) (turn g (product (boxAt p 1) (g .turns))) (turn g (product (boxAt p 2) (g .turns)))
 
--- ---- the gyroid's value sx·cy + sy·cz + sz·cx, and an entry of its gradient
-unfoldable pub valueAt : Interval → Interval → Interval → Interval → Interval → Interval → Interval
-valueAt sx cx sy cy sz cz = sum (sum (product sx cy) (product sy cz)) (product sz cx)
+-- ---- the surface's value: sx·cy + sy·cz + sz·cx, and of the primitive surface "(cx + cy) + cz"
+unfoldable pub valueAt : Surface → Interval → Interval → Interval → Interval → Interval → Interval → Interval
+valueAt Surface.Network sx cx sy cy sz cz = sum (sum (product sx cy) (product sy cz)) (product sz cx)
+valueAt Surface.Primitive sx cx sy cy sz cz = sum (sum cx cy) cz
 
--- (a·b − c·d) k
-unfoldable pub crossed : Interval → Interval → Interval → Interval → Interval → Interval
-crossed a b c d k = product (difference (product a b) (product c d)) k
+-- ---- its gradient: on x (cx·cy − sz·sx) k, and of the primitive surface "(−sx) × wave". An entry is made of the axis' sine and cosine, the cosine
+-- of the axis after it and the sine of the one before
+unfoldable pub entryAt : Surface → Interval → Interval → Interval → Interval → Interval → Interval
+entryAt Surface.Network sine cosine after before k = product (difference (product cosine after) (product before sine)) k
+entryAt Surface.Primitive sine cosine after before k = product (negation sine) k
 
-unfoldable pub gradientAt : Interval → Interval → Interval → Interval → Interval → Interval → Interval → List Interval
-gradientAt sx cx sy cy sz cz k = crossed cx cy sz sx k ∷ crossed cy cz sx sy k ∷ crossed cz cx sy sz k ∷ []
+unfoldable pub gradientAt : Surface → Interval → Interval → Interval → Interval → Interval → Interval → Interval → List Interval
+gradientAt f sx cx sy cy sz cz k = entryAt f sx cx cy sz k ∷ entryAt f sy cy cz sx k ∷ entryAt f sz cz cx sy k ∷ []
 
 -- ---- the jet. Where nothing is found, all else is zero
 abbrev pub noJet : ℕ → Jet
 noJet n = record { refusal = n; found = false; value = zero; gradient = zeros }
 
-abbrev pub jetOf : Waves → Interval → Jet
-jetOf Waves.None k = noJet 0
-jetOf (Waves.Found sx cx sy cy sz cz) k = record { refusal = 0; found = true; value = valueAt sx cx sy cy sz cz; gradient = gradientAt sx cx sy cy sz cz k }
+abbrev pub jetOf : Surface → Waves → Interval → Jet
+jetOf f Waves.None k = noJet 0
+jetOf f (Waves.Found sx cx sy cy sz cz) k = record {
+  refusal = 0;
+  found = true;
+  value = valueAt f sx cx sy cy sz cz;
+  gradient = gradientAt f sx cx sy cy sz cz k;
+}
 
 unfoldable pub jet : Gyroid → List Interval → Jet
-jet g p = jetOf (waves g p) (g .wave)
+jet g p = jetOf (g .surface) (waves g p) (g .wave)
 
 -- ---- less the level's affine extension
 unfoldable pub minus : List Interval → List Interval → List Interval

@@ -1,4 +1,5 @@
 -- The leaf that an accepted description compiles to. Lengths are in millimetres, levels plain. Definitions only; assumes nothing.
+use mathlib.Core.Bool.{cond}
 use lib.IntN.{ℤ, pos, natAbs, _+ℤ_, _*ℤ_}
 use Rattle.interval.specs.declared.Interval.{Interval}
 use Rattle.interval.specs.Interval.{twoPi, product, square}
@@ -8,12 +9,19 @@ use Rattle.grade.specs.declared.Linear.{Linear}
 use Rattle.grade.specs.declared.LevelKind.{LevelKind}
 use Rattle.grade.specs.declared.GradeDef.{GradeDef}
 use Rattle.grade.specs.declared.Slope.{Slope}
+use Rattle.grade.specs.Grade.{eqZ}
 use Rattle.grade.specs.Exact.{compiled}
 use Rattle.grade.specs.Certified.{slopeBound}
 use Rattle.grade.specs.Intervals.{unit, gradeIntervals}
 use Rattle.grade.specs.Fast.{near}
+use Rattle.gyroid.specs.declared.Surface.{Surface}
+use Rattle.gyroid.specs.declared.Surface.the-variants.{Network, Primitive}
 use Rattle.gyroid.specs.declared.Description.{Description}
 use Rattle.gyroid.specs.declared.Gyroid.{Gyroid}
+
+-- "kind 2, the primitive surface"; kind 0 is the network, and no other is accepted
+abbrev pub surfaceOf : ℤ → Surface
+surfaceOf kind = cond (eqZ kind (pos 2)) Primitive Network
 
 -- the level of a constant; a ramp has 0 here, which nothing reads
 abbrev pub levelBy : LevelKind → Linear → ℤ
@@ -58,4 +66,5 @@ leaf d = record {
   «fast_lipschitz» = nearest (lipschitzTop (d .period) (slope d)) (natAbs (lipschitzBottom (d .period) (slope d)));
   grade = compiled (d .level);
   intervals = gradeIntervals (compiled (d .level));
+  surface = surfaceOf (d .kind);
 }

@@ -9,6 +9,7 @@ pub mod Jet
 pub mod Residual
 pub mod Parts
 pub mod Admitted
+pub mod Settles
 -- what the layer's functions ask of their arguments, and the constructors
 pub mod Fits
 pub mod Constructors

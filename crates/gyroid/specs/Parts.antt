@@ -12,6 +12,7 @@ use Rattle.grade.specs.declared.PieceAnswer.{PieceAnswer}
 use Rattle.grade.specs.declared.LinearIntervals.{LinearIntervals}
 use Rattle.grade.specs.declared.GradeIntervals.{GradeIntervals}
 use Rattle.grade.specs.Intervals.{zero, zeros, alongAxis, parameterOf, levelOf, pieceGradient, pieceOf}
+use Rattle.gyroid.specs.declared.Surface.{Surface}
 use Rattle.gyroid.specs.declared.Gyroid.{Gyroid}
 use Rattle.gyroid.specs.declared.Turn.{Turn}
 use Rattle.gyroid.specs.declared.Shares.{Shares}
@@ -22,7 +23,7 @@ use Rattle.gyroid.specs.declared.Residual.the-variants.{None}
 use Rattle.gyroid.specs.Refusals.{endsWithin, greatestDouble}
 use Rattle.gyroid.specs.Turn.{turn}
 use Rattle.gyroid.specs.Jet.{valueAt, gradientAt}
-use Rattle.gyroid.specs.Residual.{radius, held, aboutCentre}
+use Rattle.gyroid.specs.Residual.{radius, secondOrder, held, aboutCentre}
 
 -- ---- one axis
 -- its shares of a linear level's t, over the interval b and at its middle m; nothing reads a constant level's
@@ -71,21 +72,24 @@ unfoldable pub levelAbout : GradeIntervals → Interval → Shares → Shares �
 levelAbout g level x y z = aboutBy (g .kind) g level x y z
 
 -- ---- the residual
--- k is the wave and k2 its square
-unfoldable pub joinedAbout : Interval → Interval → Part → Part → Part → Interval → List Interval → Interval
-joinedAbout k k2 x y z level slope = aboutCentre k2
-    (valueAt (x .sine) (x .cosine) (y .sine) (y .cosine) (z .sine) (z .cosine)) (gradientAt (x .sine) (x .cosine) (y .sine) (y .cosine) (z .sine) (z .cosine) k)
-    level slope (point (x .radius) ∷ point (y .radius) ∷ point (z .radius) ∷ [])
+-- f is the surface, k the wave and k2 its square
+unfoldable pub joinedAbout : Surface → Interval → Interval → Part → Part → Part → Interval → List Interval → Interval
+joinedAbout f k k2 x y z level slope =
+    let r = point (x .radius) ∷ point (y .radius) ∷ point (z .radius) ∷ [] in
+    aboutCentre (secondOrder f k2 r)
+    (valueAt f (x .sine) (x .cosine) (y .sine) (y .cosine) (z .sine) (z .cosine))
+    (gradientAt f (x .sine) (x .cosine) (y .sine) (y .cosine) (z .sine) (z .cosine) k)
+    level slope r
 
 -- across an anchor plane less the level's range over the box
 abbrev pub lessRange : LevelAbout → Interval → Residual
 lessRange l v = cond (l .across) (held (difference v (l .range))) (held v)
 
--- of the levels, a constant's interval, the wave and its square
-unfoldable pub joinedOf : GradeIntervals → Interval → Interval → Interval → Part → Part → Part → Residual
-joinedOf levels level k k2 x y z =
+-- of the surface, the levels, a constant's interval, the wave and its square
+unfoldable pub joinedOf : Surface → GradeIntervals → Interval → Interval → Interval → Part → Part → Part → Residual
+joinedOf f levels level k k2 x y z =
     let l = levelAbout levels level (x .shares) (y .shares) (z .shares) in
-    cond (not (x .found && y .found && z .found)) None (lessRange l (joinedAbout k k2 x y z (l .at) (l .slope)))
+    cond (not (x .found && y .found && z .found)) None (lessRange l (joinedAbout f k k2 x y z (l .at) (l .slope)))
 
 abbrev pub joined : Gyroid → Part → Part → Part → Residual
-joined g x y z = joinedOf (g .intervals) (g .«interval_level») (g .wave) (g .«wave_squared») x y z
+joined g x y z = joinedOf (g .surface) (g .intervals) (g .«interval_level») (g .wave) (g .«wave_squared») x y z

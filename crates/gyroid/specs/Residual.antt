@@ -12,6 +12,7 @@ use Rattle.grade.specs.declared.Piece.the-variants.{Start, Ramp, End}
 use Rattle.grade.specs.declared.PieceAnswer.{PieceAnswer}
 use Rattle.grade.specs.declared.GradeIntervals.{GradeIntervals}
 use Rattle.grade.specs.Intervals.{boxAt, zero, zeros, interval, affine, gradient, pieceGradient, piece}
+use Rattle.gyroid.specs.declared.Surface.{Surface}
 use Rattle.gyroid.specs.declared.Gyroid.{Gyroid}
 use Rattle.gyroid.specs.declared.Jet.{Jet}
 use Rattle.gyroid.specs.declared.Residual.{Residual}
@@ -41,29 +42,32 @@ reach d r = product (point (magnitude d)) r
 unfoldable pub spread : List Interval → List Interval → Interval
 spread d r = sum (sum (sum zero (reach (boxAt d 0) (boxAt r 0))) (reach (boxAt d 1) (boxAt r 1))) (reach (boxAt d 2) (boxAt r 2))
 
--- x² + y² + z² + x·y + y·z + z·x
-unfoldable pub curvedOf : Interval → Interval → Interval → Interval
-curvedOf x y z = sum (sum (sum (sum (sum (square x) (square y)) (square z)) (product x y)) (product y z)) (product z x)
+-- the second-order term over k²: x² + y² + z² + x·y + y·z + z·x, and of the primitive surface "((rx² + ry²) + rz²) × 0.5"
+unfoldable pub bracketAt : Surface → Interval → Interval → Interval → Interval
+bracketAt Surface.Network x y z = sum (sum (sum (sum (sum (square x) (square y)) (square z)) (product x y)) (product y z)) (product z x)
+bracketAt Surface.Primitive x y z = product (sum (sum (square x) (square y)) (square z)) (point (b64 0x3fe0_0000_0000_0000))
 
-unfoldable pub curved : List Interval → Interval
-curved r = curvedOf (boxAt r 0) (boxAt r 1) (boxAt r 2)
+unfoldable pub secondOrder : Surface → Interval → List Interval → Interval
+secondOrder f k2 r = product k2 (bracketAt f (boxAt r 0) (boxAt r 1) (boxAt r 2))
 
+-- both, q being the second-order term
 unfoldable pub bound : Interval → List Interval → List Interval → Float
-bound k2 d r = sum (spread d r) (product k2 (curved r)) .hi
+bound q d r = sum (spread d r) q .hi
 
 -- ---- "Answers are an enclosure or none."
 abbrev pub held : Interval → Residual
 held v = Enclosure (v .lo) (v .hi)
 
--- the value and the gradient at the centre, the level there and its slope, the half-widths
+-- the second-order term, the value and the gradient at the centre, the level there and its slope, the half-widths
 abbrev pub aboutCentre : Interval → Interval → List Interval → Interval → List Interval → List Interval → Interval
-aboutCentre k2 value gradient level slope r = sum (difference value level) (symmetric (bound k2 (minus gradient slope) r))
+aboutCentre q value gradient level slope r = sum (difference value level) (symmetric (bound q (minus gradient slope) r))
 
 unfoldable pub expanded : Interval → Jet → Interval → List Interval → List Interval → Residual
-expanded k2 j level slope r = cond (not (j .found)) None (held (aboutCentre k2 (j .value) (j .gradient) level slope r))
+expanded q j level slope r = cond (not (j .found)) None (held (aboutCentre q (j .value) (j .gradient) level slope r))
 
 unfoldable pub expansion : Gyroid → List Interval → Interval → List Interval → Residual
-expansion g w level slope = cond (not (allFinite w)) None (expanded (g .«wave_squared») (jet g (centre w)) level slope (radii w))
+expansion g w level slope =
+    cond (not (allFinite w)) None (expanded (secondOrder (g .surface) (g .«wave_squared») (radii w)) (jet g (centre w)) level slope (radii w))
 
 -- ---- the choice of the level by piece
 abbrev pub levelAt : GradeIntervals → Piece → List Interval → Interval

@@ -37,7 +37,7 @@ impl Description {
         let frame = self.frame;
         tick(self.period)
             & (0 <= self.kind)
-            & (self.kind <= 1)
+            & (self.kind <= 2)
             & level.in_limits()
             & frame.in_limits()
     }

@@ -1,7 +1,8 @@
 // The surface over a box less a level, to second order about the centre.
 ghost use mathlib.Core.Path.{_≡_};
-ghost use Rattle.gyroid.specs.Residual.{centre, radius, radii, reach, spread, curvedOf, curved, bound, held, aboutCentre};
+ghost use Rattle.gyroid.specs.Residual.{centre, radius, radii, reach, spread, bracketAt, bound, held, aboutCentre};
 use crate::Residual;
+use crate::Surface;
 use crate::jets::minus;
 use crate::turns::symmetric;
 use interval::Interval;
@@ -51,29 +52,21 @@ fn spread(d: [Interval; 3], r: [Interval; 3]) -> Interval
     Interval::point(0.0).add(x).add(y).add(z)
 }
 
-fn curved_of(x: Interval, y: Interval, z: Interval) -> Interval
-    ensures { λ r. ⌜ r ≡ curvedOf x y z ⌝ }
-{
-    x.square()
-        .add(y.square())
-        .add(z.square())
-        .add(x.mul(y))
-        .add(y.mul(z))
-        .add(z.mul(x))
-}
-
 // The half-widths' part of the quadratic term of Taylor's theorem.
-fn curved(r: [Interval; 3]) -> Interval
-    ensures { λ s. ⌜ s ≡ curved r ⌝ }
+pub fn bracket_at(surface: Surface, x: Interval, y: Interval, z: Interval) -> Interval
+    ensures { λ r. ⌜ r ≡ bracketAt surface x y z ⌝ }
 {
-    curved_of(r[0], r[1], r[2])
+    let squares = x.square().add(y.square()).add(z.square());
+    match surface {
+        Surface::Network => squares.add(x.mul(y)).add(y.mul(z)).add(z.mul(x)),
+        Surface::Primitive => squares.mul(Interval::point(0.5)),
+    }
 }
 
-fn bound(k2: Interval, d: [Interval; 3], r: [Interval; 3]) -> f64
-    ensures { λ s. ⌜ s ≡ bound k2 d r ⌝ }
+fn bound(second: Interval, d: [Interval; 3], r: [Interval; 3]) -> f64
+    ensures { λ s. ⌜ s ≡ bound second d r ⌝ }
 {
-    let first = spread(d, r);
-    first.add(k2.mul(curved(r))).hi
+    spread(d, r).add(second).hi
 }
 
 pub fn held(v: Interval) -> Residual
@@ -82,17 +75,18 @@ pub fn held(v: Interval) -> Residual
     Residual::Enclosure { lo: v.lo, hi: v.hi }
 }
 
-// The surface over a box, of this value and gradient at the centre, less a level that is `level` there and has the gradient `slope`.
+// The surface over a box, of this second-order term and this value and gradient at the centre, less a level that is `level` there and has the
+// gradient `slope`.
 pub fn about_centre(
-    k2: Interval,
+    second: Interval,
     value: Interval,
     gradient: [Interval; 3],
     level: Interval,
     slope: [Interval; 3],
     r: [Interval; 3],
 ) -> Interval
-    ensures { λ s. ⌜ s ≡ aboutCentre k2 value gradient level slope r ⌝ }
+    ensures { λ s. ⌜ s ≡ aboutCentre second value gradient level slope r ⌝ }
 {
-    let reach = bound(k2, minus(gradient, slope), r);
+    let reach = bound(second, minus(gradient, slope), r);
     value.sub(level).add(symmetric(reach))
 }

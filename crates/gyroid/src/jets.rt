@@ -1,13 +1,15 @@
-// `jet` and `affine_jet`: the gyroid's value and gradient at a point, and the same less the level's affine extension.
+// `jet` and `affine_jet`: the surface's value and gradient at a point, and the same less the level's affine extension.
 ghost use mathlib.Core.Path.{_≡_};
-ghost use Rattle.gyroid.specs.Jet.{waves, valueAt, crossed, gradientAt, noJet, jet, minus, less, affineJet};
+ghost use Rattle.gyroid.specs.Jet.{waves, valueAt, entryAt, gradientAt, noJet, jet, minus, less, affineJet};
 use crate::Gyroid;
 use crate::Jet;
+use crate::Surface;
 use crate::Turn;
 use crate::Waves;
 use interval::Interval;
 
 pub fn value_at(
+    surface: Surface,
     sx: Interval,
     cx: Interval,
     sy: Interval,
@@ -15,19 +17,33 @@ pub fn value_at(
     sz: Interval,
     cz: Interval,
 ) -> Interval
-    ensures { λ r. ⌜ r ≡ valueAt sx cx sy cy sz cz ⌝ }
+    ensures { λ r. ⌜ r ≡ valueAt surface sx cx sy cy sz cz ⌝ }
 {
-    sx.mul(cy).add(sy.mul(cz)).add(sz.mul(cx))
+    match surface {
+        Surface::Network => sx.mul(cy).add(sy.mul(cz)).add(sz.mul(cx)),
+        Surface::Primitive => cx.add(cy).add(cz),
+    }
 }
 
-// (a·b − c·d) k
-fn crossed(a: Interval, b: Interval, c: Interval, d: Interval, k: Interval) -> Interval
-    ensures { λ r. ⌜ r ≡ crossed a b c d k ⌝ }
+// The gradient's entry on an axis, from the axis' sine and cosine, the cosine of the axis after it and the sine of the one before.
+fn entry_at(
+    surface: Surface,
+    sine: Interval,
+    cosine: Interval,
+    after: Interval,
+    before: Interval,
+    k: Interval,
+) -> Interval
+    ensures { λ r. ⌜ r ≡ entryAt surface sine cosine after before k ⌝ }
 {
-    a.mul(b).sub(c.mul(d)).mul(k)
+    match surface {
+        Surface::Network => cosine.mul(after).sub(before.mul(sine)).mul(k),
+        Surface::Primitive => sine.neg().mul(k),
+    }
 }
 
 pub fn gradient_at(
+    surface: Surface,
     sx: Interval,
     cx: Interval,
     sy: Interval,
@@ -36,11 +52,11 @@ pub fn gradient_at(
     cz: Interval,
     k: Interval,
 ) -> [Interval; 3]
-    ensures { λ r. ⌜ r ≡ gradientAt sx cx sy cy sz cz k ⌝ }
+    ensures { λ r. ⌜ r ≡ gradientAt surface sx cx sy cy sz cz k ⌝ }
 {
-    let x = crossed(cx, cy, sz, sx, k);
-    let y = crossed(cy, cz, sx, sy, k);
-    let z = crossed(cz, cx, sy, sz, k);
+    let x = entry_at(surface, sx, cx, cy, sz, k);
+    let y = entry_at(surface, sy, cy, cz, sx, k);
+    let z = entry_at(surface, sz, cz, cx, sy, k);
     [x, y, z]
 }
 
@@ -107,11 +123,12 @@ impl Gyroid {
         let Waves::Found(sx, cx, sy, cy, sz, cz) = self.waves(p) else {
             return Jet::none(0);
         };
+        let surface = self.surface;
         Jet {
             refusal: 0,
             found: true,
-            value: value_at(sx, cx, sy, cy, sz, cz),
-            gradient: gradient_at(sx, cx, sy, cy, sz, cz, self.wave),
+            value: value_at(surface, sx, cx, sy, cy, sz, cz),
+            gradient: gradient_at(surface, sx, cx, sy, cy, sz, cz, self.wave),
         }
     }
 

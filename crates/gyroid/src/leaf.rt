@@ -2,18 +2,30 @@
 ghost use mathlib.Core.Path.{_≡_};
 ghost use Rattle.exact.specs.Within.{Within};
 ghost use Rattle.grade.specs.Fits.{DefFits, SlopeFits};
-ghost use Rattle.gyroid.specs.Leaf.{constantLevel, lipschitzTop, lipschitzBottom, leaf};
+ghost use Rattle.gyroid.specs.Leaf.{surfaceOf, constantLevel, lipschitzTop, lipschitzBottom, leaf};
 ghost use Rattle.gyroid.specs.Constructors.{noLeaf, certified, new};
 ghost use Rattle.gyroid.specs.Fits.{Accepted};
 use crate::Compiled;
 use crate::Description;
 use crate::Gyroid;
+use crate::Surface;
 use crate::entries::unsupported;
 use grade::GradeDef;
 use grade::LevelKind;
 use grade::Slope;
+use grade::limits::equal;
 use interval::Interval;
 use interval::nearest::nearest;
+
+// The surface of an accepted kind.
+fn surface_of(kind: i64) -> Surface
+    ensures { λ r. ⌜ r ≡ surfaceOf kind ⌝ }
+{
+    if equal(kind, 2) {
+        return Surface::Primitive;
+    }
+    Surface::Network
+}
 
 // The level of a constant, in level counts.
 fn constant_level(grade: GradeDef) -> i64
@@ -49,6 +61,7 @@ impl Gyroid {
         requires { ⌜ Accepted description ⌝ }
         ensures { λ r. ⌜ r ≡ leaf description ⌝ }
     {
+        let surface = surface_of(description.kind);
         let level = description.level;
         let grade = GradeDef::compile(level);
         let constant = constant_level(grade);
@@ -75,6 +88,7 @@ impl Gyroid {
             fast_lipschitz: nearest(top, bottom),
             grade,
             intervals: grade.intervals(),
+            surface,
         }
     }
 
@@ -102,6 +116,7 @@ impl Gyroid {
             fast_lipschitz: 0.0,
             grade,
             intervals: grade.intervals(),
+            surface: Surface::Network,
         }
     }
 

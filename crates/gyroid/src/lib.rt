@@ -1,5 +1,5 @@
-// The network gyroid over a description: what refuses it, the leaf that it compiles to, the jet and the residual over a box. Here stand
-// the types. Each function equals its definition in specs/, operation by operation.
+// The surfaces over a description: what refuses it, the leaf that it compiles to, the jet and the residual over a box. Here stand the types.
+// Each function equals its definition in specs/, operation by operation.
 pub mod entries; // a description's limits and refusals
 pub mod leaf; // the compiled leaf
 pub mod turns; // sine and cosine of one turn coordinate
@@ -23,12 +23,18 @@ pub struct Frame {
     pub translation: [i64; 3],
 }
 
-// What a planner enters, in whole ticks and level counts. Kind 0 is network, 1 sheet.
+// What a planner enters, in whole ticks and level counts. Kind 0 is network, 1 sheet, 2 primitive.
 pub struct Description {
     pub period: i64,
     pub kind: i64,
     pub level: Grade,
     pub frame: Frame,
+}
+
+// A kind's surface, with X = 2πx/a and likewise Y and Z.
+pub enum Surface {
+    Network, // sin X cos Y + sin Y cos Z + sin Z cos X
+    Primitive, // cos X + cos Y + cos Z
 }
 
 // A compiled leaf. Lengths are in millimetres and levels plain; `interval_level` and `fast_level` serve a constant level only.
@@ -48,6 +54,7 @@ pub struct Gyroid {
     pub fast_lipschitz: f64,
     pub grade: GradeDef,
     pub intervals: GradeIntervals,
+    pub surface: Surface,
 }
 
 // The number of the refusal, 0 for none, and the leaf.

@@ -9,8 +9,10 @@ use crate::Part;
 use crate::Residual;
 use crate::Shares;
 use crate::State;
+use crate::Surface;
 use crate::Turn;
 use crate::expand::about_centre;
+use crate::expand::bracket_at;
 use crate::expand::held;
 use crate::expand::radius;
 use crate::floats::finite;
@@ -132,6 +134,7 @@ fn level_about(
 
 // The surface less a level that is `level` at the centre and has the gradient `slope`; k is the wave and k2 its square.
 fn joined_about(
+    surface: Surface,
     k: Interval,
     k2: Interval,
     x: Part,
@@ -140,19 +143,38 @@ fn joined_about(
     level: Interval,
     slope: [Interval; 3],
 ) -> Interval
-    ensures { λ r. ⌜ r ≡ joinedAbout k k2 x y z level slope ⌝ }
+    ensures { λ r. ⌜ r ≡ joinedAbout surface k k2 x y z level slope ⌝ }
 {
-    let value = value_at(x.sine, x.cosine, y.sine, y.cosine, z.sine, z.cosine);
-    let gradient = gradient_at(x.sine, x.cosine, y.sine, y.cosine, z.sine, z.cosine, k);
+    let value = value_at(
+        surface,
+        x.sine,
+        x.cosine,
+        y.sine,
+        y.cosine,
+        z.sine,
+        z.cosine,
+    );
+    let gradient = gradient_at(
+        surface,
+        x.sine,
+        x.cosine,
+        y.sine,
+        y.cosine,
+        z.sine,
+        z.cosine,
+        k,
+    );
     let rx = Interval::point(x.radius);
     let ry = Interval::point(y.radius);
     let rz = Interval::point(z.radius);
+    let second = k2.mul(bracket_at(surface, rx, ry, rz));
     let r = [rx, ry, rz];
-    about_centre(k2, value, gradient, level, slope, r)
+    about_centre(second, value, gradient, level, slope, r)
 }
 
 // The residual over the box whose parts these are, from what it reads of the leaf.
 fn joined_of(
+    surface: Surface,
     levels: GradeIntervals,
     level: Interval,
     k: Interval,
@@ -161,14 +183,14 @@ fn joined_of(
     y: Part,
     z: Part,
 ) -> Residual
-    ensures { λ r. ⌜ r ≡ joinedOf levels level k k2 x y z ⌝ }
+    ensures { λ r. ⌜ r ≡ joinedOf surface levels level k k2 x y z ⌝ }
 {
     if !(x.found & y.found & z.found) {
         return Residual::None;
     }
     let about = level_about(levels, level, x.shares, y.shares, z.shares);
     let slope = about.slope;
-    let v = joined_about(k, k2, x, y, z, about.at, slope);
+    let v = joined_about(surface, k, k2, x, y, z, about.at, slope);
     if about.across {
         return held(v.sub(about.range));
     }
@@ -177,6 +199,7 @@ fn joined_of(
 
 // The state of that box. A walk passes these, and not the leaf, which is larger.
 pub fn joined_state(
+    surface: Surface,
     levels: GradeIntervals,
     level: Interval,
     k: Interval,
@@ -185,9 +208,9 @@ pub fn joined_state(
     y: Part,
     z: Part,
 ) -> State
-    ensures { λ r. ⌜ r ≡ stateOf (joinedOf levels level k k2 x y z) ⌝ }
+    ensures { λ r. ⌜ r ≡ stateOf (joinedOf surface levels level k k2 x y z) ⌝ }
 {
-    joined_of(levels, level, k, k2, x, y, z).state()
+    joined_of(surface, levels, level, k, k2, x, y, z).state()
 }
 
 impl Gyroid {
@@ -216,8 +239,10 @@ impl Gyroid {
     pub fn joined(self, x: Part, y: Part, z: Part) -> Residual
         ensures { λ r. ⌜ r ≡ joined self x y z ⌝ }
     {
+        let surface = self.surface;
         let levels = self.intervals;
         joined_of(
+            surface,
             levels,
             self.interval_level,
             self.wave,
@@ -238,8 +263,9 @@ impl Gyroid {
         if !(x.found & y.found & z.found) {
             return Residual::None;
         }
+        let surface = self.surface;
         let k = self.wave;
         let k2 = self.wave_squared;
-        held(joined_about(k, k2, x, y, z, level, slope))
+        held(joined_about(surface, k, k2, x, y, z, level, slope))
     }
 }

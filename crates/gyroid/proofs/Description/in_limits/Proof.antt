@@ -25,7 +25,7 @@ returns c =
     let d = c10 .args .self in
     let p = heard tick {x = d .period} (record { sfits = c7 .struct-told .given .0 .1 }) (c6 .tick .ensures) in
     let k = back {x = d .kind} (record { sfits = c4 .struct-told2 .given .1 .0 .1 }) in
-    λ i. p i && leZ (pos 0) (k i) && leZ (k i) (pos 1) && c .before .in-limits .ensures i && c .in-limits2 .ensures i
+    λ i. p i && leZ (pos 0) (k i) && leZ (k i) (pos 2) && c .before .in-limits .ensures i && c .in-limits2 .ensures i
 
 pub in-limits-spec : {M : Type 1} → statement M
 in-limits-spec = tie.close (tie.spec (λ _ _. tt) in-limits-requires in-limits-requires-2 returns)

@@ -11,14 +11,14 @@ use mir.Syntax.{w64}
 use mir.Val.{Fits}
 use Rattle.exact.proofs.IntegerOrder.{<ℤ-le}
 use Rattle.exact.proofs.Size.{size-above}
-use Rattle.exact.proofs.Signed.{Is, is, got, bit, asked}
+use Rattle.exact.proofs.Signed.{Is, is, got, bit, asked, heard}
 use Rattle.interval.specs.Interval.{product, square}
 use Rattle.interval.specs.Nearest.{nearest, fromRational}
 use Rattle.grade.specs.Exact.{compiled}
 use Rattle.grade.specs.Certified.{slopeBound}
 use Rattle.grade.specs.Intervals.{gradeIntervals}
 use Rattle.grade.specs.Fits.{DefFits, SlopeFits}
-use Rattle.gyroid.specs.Leaf.{constantLevel, lipschitzTop, lipschitzBottom, leaf}
+use Rattle.gyroid.specs.Leaf.{surfaceOf, constantLevel, lipschitzTop, lipschitzBottom, leaf}
 use Rattle.gyroid.proofs.AcceptedLaws.{accepted, constant-within, top-within, bottom-within, bottom-above}
 use Rattle.gyroid.proofs.Gyroid.compile.Statement.{statement}
 use Rattle.gyroid.proofs.Gyroid.compile.Tie as tie
@@ -33,24 +33,27 @@ cast {n} {w} {z} t i h = (subst⁻¹ (λ (z : ℤ). T (nonNeg z)) (i .same) (yes
     suc-le : {m n : ℕ} → m ≤ n → suc m ≤ suc n
     suc-le h = omega arith
 
+surface-of-requires : tie.Need-surface-of-requires
+surface-of-requires c κs = search needs
+
 compile-requires : tie.Need-compile-requires
 compile-requires c κs =
-    let d = c .before .args .description in
-    let (p, s) = accepted d (c .before .pre .none) in
+    let d = c .before .before .before .args .description in
+    let (p, s) = accepted d (c .before .before .before .pre .none) in
     p .level
 
 slope-bound-requires : tie.Need-slope-bound-requires
 slope-bound-requires c κs =
     let c3 = c .before .before .before in
-    let d = c3 .args .description in
-    let (p, s) = accepted d (c3 .pre .none) in
+    let d = c3 .before .before .args .description in
+    let (p, s) = accepted d (c3 .before .before .pre .none) in
     subst⁻¹ DefFits (c .before .compile .ensures) (p .fits)
 
 cast-period : tie.Need-cast-period
 cast-period c =
     let c6 = c .before .before .before .before .before .before in
-    let d = c6 .args .description in
-    let (p, s) = accepted d (c6 .pre .none) in
+    let d = c6 .before .before .args .description in
+    let (p, s) = accepted d (c6 .before .before .pre .none) in
     let w = bit tt (is (p .period)) in
     cast tt w (p .above)
 
@@ -59,8 +62,8 @@ lipschitz-top-requires c κs =
     let c3 = c .before .before .before in
     let c5 = c3 .before .before in
     let c7 = c5 .before .before in
-    let d = c7 .args .description in
-    let (p, s) = accepted d (c7 .pre .none) in
+    let d = c7 .before .before .args .description in
+    let (p, s) = accepted d (c7 .before .before .pre .none) in
     let g = c5 .compile .ensures in
     let sl = c3 .slope-bound .ensures ∙ ap slopeBound g in
     let w = bit tt (is (p .period)) in
@@ -71,8 +74,8 @@ lipschitz-bottom-requires c κs =
     let c5 = c .before .before .before .before .before in
     let c7 = c5 .before .before in
     let c9 = c7 .before .before in
-    let d = c9 .args .description in
-    let (p, s) = accepted d (c9 .pre .none) in
+    let d = c9 .before .before .args .description in
+    let (p, s) = accepted d (c9 .before .before .pre .none) in
     let g = c7 .compile .ensures in
     let sl = c5 .slope-bound .ensures ∙ ap slopeBound g in
     let w = bit tt (is (p .period)) in
@@ -83,8 +86,8 @@ cast-bottom c =
     let c6 = c .before .before .before .before .before .before in
     let c8 = c6 .before .before in
     let c10 = c8 .before .before in
-    let d = c10 .args .description in
-    let (p, s) = accepted d (c10 .pre .none) in
+    let d = c10 .before .before .args .description in
+    let (p, s) = accepted d (c10 .before .before .pre .none) in
     let g = c8 .compile .ensures in
     let sl = c6 .slope-bound .ensures ∙ ap slopeBound g in
     let w = bit tt (is (p .period)) in
@@ -94,8 +97,8 @@ cast-bottom c =
 from-rational-requires : tie.Need-from-rational-requires
 from-rational-requires c κs =
     let c10 = c .before .before .before .before .before .before .before .before .before .before in
-    let d = c10 .args .description in
-    let (p, s) = accepted d (c10 .pre .none) in
+    let d = c10 .before .before .args .description in
+    let (p, s) = accepted d (c10 .before .before .pre .none) in
     let w = bit tt (is (p .period)) in
     let (a, b) = denominator tt w (p .above) in
     (lit≤ tt, a, b)
@@ -105,8 +108,8 @@ from-rational-requires-2 c κs =
     let c11 = c .before .before .before .before .before .before .before .before .before .before .before in
     let c12 = c11 .before in
     let c14 = c12 .before .before in
-    let d = c14 .args .description in
-    let (p, s) = accepted d (c14 .pre .none) in
+    let d = c14 .before .before .args .description in
+    let (p, s) = accepted d (c14 .before .before .pre .none) in
     let g = c12 .compile .ensures in
     let level = bit tt (got (c11 .constant-level .ensures ∙ ap constantLevel g) (constant-within (compiled (d .level)) (p .fits))) in
     (asked {n = 2 ^ 53} tt level .abs, lit< tt, lit≤ tt)
@@ -130,8 +133,8 @@ from-rational-requires-3 c κs =
     let c15 = c11 .before .before .before .before in
     let c17 = c15 .before .before in
     let c19 = c17 .before .before in
-    let d = c19 .args .description in
-    let (p, s) = accepted d (c19 .pre .none) in
+    let d = c19 .before .before .args .description in
+    let (p, s) = accepted d (c19 .before .before .pre .none) in
     let g = c17 .compile .ensures in
     let sl = c15 .slope-bound .ensures ∙ ap slopeBound g in
     let w = bit tt (is (p .period)) in
@@ -143,8 +146,8 @@ from-rational-requires-3 c κs =
 nearest-requires : tie.Need-nearest-requires
 nearest-requires c κs =
     let c20 = c .before .before .before .before .before .before .before .before .before .before .before .before .before .before .before .before .before .before .before .before in
-    let d = c20 .args .description in
-    let (p, s) = accepted d (c20 .pre .none) in
+    let d = c20 .before .before .args .description in
+    let (p, s) = accepted d (c20 .before .before .pre .none) in
     let w = bit tt (is (p .period)) in
     let (a, b) = denominator tt w (p .above) in
     (lit≤ tt, a, b)
@@ -154,8 +157,8 @@ nearest-requires-2 c κs =
     let c18 = c .before .before .before .before .before .before .before .before .before .before .before .before .before .before .before .before .before .before in
     let c19 = c18 .before in
     let c21 = c19 .before .before in
-    let d = c21 .args .description in
-    let (p, s) = accepted d (c21 .pre .none) in
+    let d = c21 .before .before .args .description in
+    let (p, s) = accepted d (c21 .before .before .pre .none) in
     let g = c19 .compile .ensures in
     let level = bit tt (got (c18 .constant-level .ensures ∙ ap constantLevel g) (constant-within (compiled (d .level)) (p .fits))) in
     (asked {n = 2 ^ 53} tt level .abs, lit< tt, lit≤ tt)
@@ -167,8 +170,8 @@ nearest-requires-3 c κs =
     let c18 = c14 .before .before .before .before in
     let c20 = c18 .before .before in
     let c22 = c20 .before .before in
-    let d = c22 .args .description in
-    let (p, s) = accepted d (c22 .pre .none) in
+    let d = c22 .before .before .args .description in
+    let (p, s) = accepted d (c22 .before .before .pre .none) in
     let g = c20 .compile .ensures in
     let sl = c18 .slope-bound .ensures ∙ ap slopeBound g in
     let w = bit tt (is (p .period)) in
@@ -181,8 +184,8 @@ intervals-requires : tie.Need-intervals-requires
 intervals-requires c κs =
     let c21 = c .before .before .before .before .before .before .before .before .before .before .before .before .before .before .before .before .before .before .before .before .before in
     let c23 = c21 .before .before in
-    let d = c23 .args .description in
-    let (p, s) = accepted d (c23 .pre .none) in
+    let d = c23 .before .before .args .description in
+    let (p, s) = accepted d (c23 .before .before .pre .none) in
     subst⁻¹ DefFits (c21 .compile .ensures) (p .fits)
 
 returns : tie.Need-returns
@@ -205,8 +208,8 @@ returns c =
     let c21 = c20 .before in
     let c22 = c21 .before in
     let c24 = c22 .before .before in
-    let d = c24 .args .description in
-    let (p, s) = accepted d (c24 .pre .none) in
+    let d = c24 .before .before .args .description in
+    let (p, s) = accepted d (c24 .before .before .pre .none) in
     let g = c22 .compile .ensures in
     let sl = c20 .slope-bound .ensures ∙ ap slopeBound g in
     let w = bit tt (is (p .period)) in
@@ -216,6 +219,7 @@ returns c =
     let turns = c13 .from-rational .ensures ∙ (λ k. fromRational (pos 1024) (natAbs (w .same k))) in
     let wave = c11 .mul .ensures ∙ ap₂ product (c12 .two-pi .ensures) turns in
     let lipschitz = c4 .from-rational3 .ensures ∙ (λ k. fromRational (top .same k) (natAbs (bottom .same k))) in
+    let surface = heard surfaceOf {x = d .kind} (record { sfits = c24 .before .struct-told .given .1 .0 .1 }) (c24 .surface-of .ensures) in
     λ k. record {
       turns = turns k;
       «two_pi» = c12 .two-pi .ensures k;
@@ -232,9 +236,12 @@ returns c =
       «fast_lipschitz» = (c .before .nearest3 .ensures ∙ (λ j. nearest (top .same j) (natAbs (bottom .same j)))) k;
       grade = g k;
       intervals = (c .intervals .ensures ∙ ap gradeIntervals g) k;
+      surface = surface k;
     }
 
 pub compile-spec : {M : Type 1} → statement M
 compile-spec =
     tie.close
-    (tie.spec compile-requires (λ _ _. tt) slope-bound-requires cast-period lipschitz-top-requires lipschitz-bottom-requires cast-bottom from-rational-requires (λ _ _. tt) (λ _ _. tt) (λ _ _. tt) from-rational-requires-2 sine-requires cosine-requires tail-sine-requires tail-cosine-requires from-rational-requires-3 nearest-requires nearest-requires-2 nearest-requires-3 intervals-requires returns)
+    (tie.spec surface-of-requires compile-requires (λ _ _. tt) slope-bound-requires cast-period lipschitz-top-requires lipschitz-bottom-requires cast-bottom
+    from-rational-requires (λ _ _. tt) (λ _ _. tt) (λ _ _. tt) from-rational-requires-2 sine-requires cosine-requires tail-sine-requires
+    tail-cosine-requires from-rational-requires-3 nearest-requires nearest-requires-2 nearest-requires-3 intervals-requires returns)

@@ -10,14 +10,14 @@ use Rattle.interval.specs.declared.Interval.{Interval}
 use Rattle.gyroid.proofs.expand.about_centre.Statement.{statement}
 use Rattle.gyroid.proofs.expand.about_centre.Tie as tie
 
-is : (k2 value : Interval) (gradient : List Interval) (level : Interval) (slope r : List Interval) {r0 : List Interval} {r1 : Float} {r2 r3 r4 : Interval}
+is : (second value : Interval) (gradient : List Interval) (level : Interval) (slope r : List Interval) {r0 : List Interval} {r1 : Float} {r2 r3 r4 : Interval}
     → r0 ≡ minus gradient slope
-    → r1 ≡ bound k2 r0 r
+    → r1 ≡ bound second r0 r
     → r2 ≡ difference value level
     → r3 ≡ symmetric r1
     → r4 ≡ sum r2 r3
-    → _≡_ {A = Interval} r4 (aboutCentre k2 value gradient level slope r)
-is k2 value gradient level slope r e0 e1 e2 e3 e4 = cc
+    → _≡_ {A = Interval} r4 (aboutCentre second value gradient level slope r)
+is second value gradient level slope r e0 e1 e2 e3 e4 = cc
 
 returns : tie.Need-returns
 returns c =

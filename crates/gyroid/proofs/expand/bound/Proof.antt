@@ -5,9 +5,7 @@ use Rattle.gyroid.proofs.expand.bound.Tie as tie
 
 returns : tie.Need-returns
 unfolding bound
-returns c =
-    let c3 = c .before .before .before in
-    rw (c .add .ensures, c .before .mul .ensures, c .before .before .curved .ensures, c3 .spread .ensures)
+returns c = rw (c .add .ensures, c .before .spread .ensures)
 
 pub bound-spec : {M : Type 1} → statement M
-bound-spec = tie.close (tie.spec (λ _ _. tt) (λ _ _. tt) (λ _ _. tt) (λ _ _. tt) returns)
+bound-spec = tie.close (tie.spec (λ _ _. tt) (λ _ _. tt) returns)

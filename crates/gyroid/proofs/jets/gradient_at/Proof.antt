@@ -5,8 +5,7 @@ use Rattle.gyroid.proofs.jets.gradient_at.Tie as tie
 
 returns : tie.Need-returns
 unfolding gradientAt
-returns c = rw (c .crossed3 .ensures, c .before .crossed2 .ensures, c .before .before .crossed .ensures)
+returns c = rw (c .entry-at3 .ensures, c .before .entry-at2 .ensures, c .before .before .entry-at .ensures)
 
 pub gradient-at-spec : {M : Type 1} → statement M
-gradient-at-spec =
-    tie.close (tie.spec (λ _ _. tt) (λ _ _. tt) (λ _ _. tt) returns)
+gradient-at-spec = tie.close (tie.spec (λ _ _. tt) (λ _ _. tt) (λ _ _. tt) returns)
