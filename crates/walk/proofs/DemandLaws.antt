@@ -16,7 +16,7 @@ use Rattle.gyroid.specs.declared.State.the-variants.{Inside, Outside, Unsettled
 use Rattle.gyroid.specs.Fits.{Accepted}
 use Rattle.gyroid.specs.Leaf.{leaf}
 use Rattle.gyroid.specs.Residual.{stateNumber}
-use Rattle.gyroid.specs.Admitted.{Settles}
+use Rattle.gyroid.specs.Settles.{Settles}
 use Rattle.gyroid.proofs.EnclosureLaws.{state-settles}
 use Rattle.tree.specs.Box.{Box, Good, lows, highs, longest, oneCube, volume, holdsCube, holders}
 use Rattle.tree.specs.Tree.{Cell, leaves}

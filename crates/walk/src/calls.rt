@@ -52,11 +52,13 @@ fn run(g: Gyroid, b: ShiftedBox, depth: usize, table: &mut [u8]) -> u32
     ensures left { λ _. ⌜ now (table .exit) ≡ roomTable g depth (boxOf b) (length (now (table .entry))) ⌝ }
 {
     let p = Parts::of(g, b);
+    let surface = g.surface;
     let levels = g.intervals;
     let root = Node {
         b,
         p,
         s: joined_state(
+            surface,
             levels,
             g.interval_level,
             g.wave,

@@ -56,6 +56,7 @@ impl Node {
     {
         let whole = self.p;
         let p = whole.renewed(a, part_of(g, b, a));
+        let surface = g.surface;
         let levels = g.intervals;
         let level = g.interval_level;
         let k = g.wave;
@@ -63,7 +64,7 @@ impl Node {
         Node {
             b,
             p,
-            s: joined_state(levels, level, k, k2, p.x, p.y, p.z),
+            s: joined_state(surface, levels, level, k, k2, p.x, p.y, p.z),
         }
     }
 }
