@@ -27,7 +27,8 @@ use Rattle.gyroid.specs.Refusals.{refusal, endsWithin, allFinite}
 use Rattle.gyroid.specs.Fits.{Accepted}
 use Rattle.gyroid.specs.Leaf.{leaf}
 use Rattle.gyroid.specs.Residual.{residual, affineResidual, boxState, stateNumber}
-use Rattle.gyroid.specs.Admitted.{OfTicks, Holds, Settles}
+use Rattle.gyroid.specs.Admitted.{OfTicks}
+use Rattle.gyroid.specs.Settles.{Holds, Settles}
 use Rattle.gyroid.proofs.AcceptedLaws.{accepted}
 use Rattle.gyroid.proofs.LeafLaws.{leaf-grade, turns-small}
 use Rattle.gyroid.proofs.InfiniteLaws.{residual-none, affine-residual-none, box-state-unsettled}

@@ -3,6 +3,8 @@
 pub mod PlanesLaws
 -- document 01's marked values
 pub mod MarkedValues
+-- the kinds of a description: refusals and saturation
+pub mod KindExamples
 -- a box of whole ticks is not refused by 9 or 10, and what the calls answer over it
 pub mod TickLaws
 -- what the proofs of the code cite

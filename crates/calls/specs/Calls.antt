@@ -4,7 +4,7 @@ use mathlib.Core.Bool.{Bool, true, false, cond, not, _&&_}
 use mathlib.Core.List.{List, [], _∷_}
 use Prim.Native.Nat.{ℕ}
 use lib.Dec.{T, eqb}
-use lib.IntN.{ℤ, pos, negsuc}
+use lib.IntN.{ℤ, pos, negℤ}
 use lib.Signed.{leZ}
 use lib.Ieee.{Float}
 use Rattle.interval.specs.declared.Interval.{Interval}
@@ -21,16 +21,18 @@ use Rattle.grade.specs.Fast.{fast}
 use Rattle.grade.specs.Refusals.{refused, _orElse_, above}
 use Rattle.grade.specs.Holds as grade
 use Rattle.grade.specs.Said.{Said, found, refusing, answered}
+use Rattle.gyroid.specs.declared.Surface.{Surface}
 use Rattle.gyroid.specs.declared.Description.{Description}
 use Rattle.gyroid.specs.declared.Jet.{Jet}
 use Rattle.gyroid.specs.declared.Residual.{Residual}
 use Rattle.gyroid.specs.declared.Residual.the-variants.{Enclosure, None}
 use Rattle.gyroid.specs.declared.State.the-variants.{Unsettled}
 use Rattle.gyroid.specs.Refusals.{refusal}
-use Rattle.gyroid.specs.Leaf.{leaf}
+use Rattle.gyroid.specs.Leaf.{surfaceOf, leaf}
 use Rattle.gyroid.specs.Jet.{noJet, jet, affineJet}
 use Rattle.gyroid.specs.Residual.{residual, affineResidual, boxState, stateNumber}
-use Rattle.gyroid.specs.Admitted.{OfTicks, Holds, Settles}
+use Rattle.gyroid.specs.Admitted.{OfTicks}
+use Rattle.gyroid.specs.Settles.{Holds, Settles}
 use Rattle.calls.specs.declared.Derivatives.{Derivatives}
 use Rattle.calls.specs.declared.EnclosureAnswer.{EnclosureAnswer}
 use Rattle.calls.specs.declared.StateAnswer.{StateAnswer}
@@ -111,16 +113,21 @@ isGraded LevelKind.Linear = true
 unfoldable pub gradedCall : Description → Said Bool
 gradedCall d = answered (refusal d) (isGraded (compiled (d .level) .kind) ∷ [])
 
--- "true from 3/2, false to −3/2, else nothing", in level counts; a ramp gives nothing
-abbrev pub saturatedAt : ℤ → List Bool
-saturatedAt c = cond (leZ (pos 1536) c) (true ∷ []) (cond (leZ c (negsuc 1535)) (false ∷ []) [])
+-- 3/2 in level counts; of the primitive surface "Saturation moves to 3 and −3 for this kind"
+abbrev pub saturation : Surface → ℤ
+saturation Surface.Network = pos 1536
+saturation Surface.Primitive = pos 3072
 
-abbrev pub saturatedBy : LevelKind → ℤ → List Bool
-saturatedBy LevelKind.Constant c = saturatedAt c
-saturatedBy LevelKind.Linear c = []
+-- "true from 3/2, false to −3/2, else nothing"; a ramp gives nothing
+abbrev pub saturatedAt : Surface → ℤ → List Bool
+saturatedAt f c = cond (leZ (saturation f) c) (true ∷ []) (cond (leZ c (negℤ (saturation f))) (false ∷ []) [])
+
+abbrev pub saturatedBy : Surface → LevelKind → ℤ → List Bool
+saturatedBy f LevelKind.Constant c = saturatedAt f c
+saturatedBy f LevelKind.Linear c = []
 
 unfoldable pub saturatedCall : Description → Said Bool
-saturatedCall d = answered (refusal d) (saturatedBy (compiled (d .level) .kind) (compiled (d .level) .linear .start))
+saturatedCall d = answered (refusal d) (saturatedBy (surfaceOf (d .kind)) (compiled (d .level) .kind) (compiled (d .level) .linear .start))
 
 unfoldable pub planesCall : Description → Said ℤ
 planesCall d = answered (refusal d) (planesValues (planes (compiled (d .level))))

@@ -13,6 +13,7 @@ use Rattle.interval.specs.Floor.{quarterNumber, modFour}
 use Rattle.interval.specs.Series.{sineTerm, cosineTerm, nineNearest}
 use Rattle.grade.specs.declared.LevelKind.{LevelKind}
 use Rattle.grade.specs.Fast.{fast}
+use Rattle.gyroid.specs.declared.Surface.{Surface}
 use Rattle.gyroid.specs.declared.Gyroid.{Gyroid}
 use Rattle.calls.specs.declared.FastCircle.{FastCircle}
 
@@ -49,9 +50,15 @@ fastTurn x turns =
     let q = quarterNumber t in
     fastTurned (modFour q) (fastCircle (fastReduced t q))
 
--- left to right
-unfoldable pub fastValue : FastCircle → FastCircle → FastCircle → Float
-fastValue x y z = add binary64 (add binary64 (mul binary64 (x .sine) (y .cosine)) (mul binary64 (y .sine) (z .cosine))) (mul binary64 (z .sine) (x .cosine))
+-- left to right; of the primitive surface "(cx + cy) + cz"
+unfoldable pub fastValue : Surface → FastCircle → FastCircle → FastCircle → Float
+fastValue Surface.Network x y z =
+    add binary64 (add binary64 (mul binary64 (x .sine) (y .cosine)) (mul binary64 (y .sine) (z .cosine))) (mul binary64 (z .sine) (x .cosine))
+fastValue Surface.Primitive x y z = add binary64 (add binary64 (x .cosine) (y .cosine)) (z .cosine)
+
+-- of the coordinate on an axis
+abbrev turnAt : Gyroid → List Float → ℕ → FastCircle
+turnAt g p i = fastTurn (pointAt p i) (g .«fast_turns»)
 
 abbrev levelBy : LevelKind → Gyroid → List Float → Float
 levelBy LevelKind.Constant g p = g .«fast_level»
@@ -60,5 +67,5 @@ levelBy LevelKind.Linear g p = fast (g .grade) p
 unfoldable pub fastDistance : Gyroid → List Float → Float
 fastDistance g p =
     div binary64
-    (sub binary64 (fastValue (fastTurn (pointAt p 0) (g .«fast_turns»)) (fastTurn (pointAt p 1) (g .«fast_turns»)) (fastTurn (pointAt p 2) (g .«fast_turns»))) (levelBy (g .grade .kind) g p))
+    (sub binary64 (fastValue (g .surface) (turnAt g p 0) (turnAt g p 1) (turnAt g p 2)) (levelBy (g .grade .kind) g p))
     (g .«fast_lipschitz»)

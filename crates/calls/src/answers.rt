@@ -1,7 +1,7 @@
 // What the layer answers, as the public calls answer it.
 ghost use mathlib.Core.Path.{_≡_};
 ghost use Rattle.grade.specs.Said.{found};
-ghost use Rattle.calls.specs.Calls.{enclosureSaid, truthSaid, planesSaid, ends, residualAnswer, pieceAnswer, planesValues, saturatedBy};
+ghost use Rattle.calls.specs.Calls.{enclosureSaid, truthSaid, planesSaid, ends, residualAnswer, pieceAnswer, planesValues, saturation, saturatedBy};
 use crate::EnclosureAnswer;
 use crate::LevelPieceAnswer;
 use crate::PlanesAnswer;
@@ -10,6 +10,7 @@ use grade::LevelKind;
 use grade::PieceAnswer;
 use grade::Planes;
 use gyroid::Residual;
+use gyroid::Surface;
 use interval::Interval;
 
 pub fn enclosure(v: Interval) -> EnclosureAnswer
@@ -45,16 +46,27 @@ pub fn planes_answer(p: Planes) -> PlanesAnswer
     }
 }
 
-// Of a level in level counts.
-pub fn saturation(kind: LevelKind, level: i64) -> TruthAnswer
-    ensures { λ r. ⌜ truthSaid r ≡ found (saturatedBy kind level) ⌝ }
+// The level from which `saturated` says true, in level counts.
+fn saturation(surface: Surface) -> i64
+    ensures { λ r. ⌜ r ≡ saturation surface ⌝ }
 {
+    match surface {
+        Surface::Network => 1536,
+        Surface::Primitive => 3072,
+    }
+}
+
+// Of a level in level counts.
+pub fn saturated_by(surface: Surface, kind: LevelKind, level: i64) -> TruthAnswer
+    ensures { λ r. ⌜ truthSaid r ≡ found (saturatedBy surface kind level) ⌝ }
+{
+    let most = saturation(surface);
     match kind {
         LevelKind::Constant => {
-            if 1536 <= level {
+            if most <= level {
                 return TruthAnswer::Found(true);
             }
-            if level <= -1536 {
+            if level <= -most {
                 return TruthAnswer::Found(false);
             }
             TruthAnswer::None

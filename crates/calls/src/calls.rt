@@ -13,7 +13,7 @@ use crate::answers::enclosure;
 use crate::answers::piece_answer;
 use crate::answers::planes_answer;
 use crate::answers::residual_answer;
-use crate::answers::saturation;
+use crate::answers::saturated_by;
 use crate::facet;
 use crate::fast;
 use crate::floats::box_refusal;
@@ -49,7 +49,7 @@ pub fn graded(description: Description) -> TruthAnswer
     }
 }
 
-// Whether every point is in the network, or none, whatever the position.
+// Whether every point is inside, or none, whatever the position.
 pub fn saturated(description: Description) -> TruthAnswer
     ensures { λ r. ⌜ truthSaid r ≡ saturatedCall description ⌝ }
 {
@@ -59,9 +59,10 @@ pub fn saturated(description: Description) -> TruthAnswer
     }
     let leaf = made.leaf;
     let grade = leaf.grade;
+    let surface = leaf.surface;
     let linear = grade.linear;
     let kind = grade.kind;
-    saturation(kind, linear.start)
+    saturated_by(surface, kind, linear.start)
 }
 
 // The anchor planes of a ramp.

@@ -97,7 +97,7 @@ fn facet_of(k: Interval, jet: Jet, s: Corners) -> Residual
     held(jet.value.add(Interval::new(s.lo - curved, s.hi + curved)))
 }
 
-// An upper bound of the norm of the gyroid's Hessian.
+// An upper bound of the norm of the surface's Hessian.
 pub fn curvature(leaf: Gyroid) -> Interval
     ensures { λ r. ⌜ r ≡ curvature leaf ⌝ }
 {

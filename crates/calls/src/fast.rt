@@ -6,6 +6,7 @@ ghost use Rattle.calls.specs.Fits.{FastFits, Near};
 use crate::FastCircle;
 use grade::LevelKind;
 use gyroid::Gyroid;
+use gyroid::Surface;
 use interval::Interval;
 use interval::floor::modulo_four;
 use interval::floor::quarter_number;
@@ -69,23 +70,27 @@ fn fast_turn(x: f64, turns: f64) -> FastCircle
     fast_turned(modulo_four(q), c)
 }
 
-fn fast_value(x: FastCircle, y: FastCircle, z: FastCircle) -> f64
-    ensures { λ r. ⌜ r ≡ fastValue x y z ⌝ }
+fn fast_value(surface: Surface, x: FastCircle, y: FastCircle, z: FastCircle) -> f64
+    ensures { λ r. ⌜ r ≡ fastValue surface x y z ⌝ }
 {
-    x.sine * y.cosine + y.sine * z.cosine + z.sine * x.cosine
+    match surface {
+        Surface::Network => x.sine * y.cosine + y.sine * z.cosine + z.sine * x.cosine,
+        Surface::Primitive => x.cosine + y.cosine + z.cosine,
+    }
 }
 
 pub fn fast_distance(leaf: Gyroid, p: [f64; 3]) -> f64
     requires { ⌜ FastFits leaf × Near p ⌝ }
     ensures { λ r. ⌜ r ≡ fastDistance leaf p ⌝ }
 {
+    let surface = leaf.surface;
     let grade = leaf.grade;
     let kind = grade.kind;
     let k = leaf.fast_turns;
     let x = fast_turn(p[0], k);
     let y = fast_turn(p[1], k);
     let z = fast_turn(p[2], k);
-    let value = fast_value(x, y, z);
+    let value = fast_value(surface, x, y, z);
     match kind {
         LevelKind::Constant => (value - leaf.fast_level) / leaf.fast_lipschitz,
         LevelKind::Linear => (value - grade.fast(p)) / leaf.fast_lipschitz,

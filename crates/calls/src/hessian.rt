@@ -1,9 +1,11 @@
 // `derivatives`: the values at a box's centre, widened by the next derivative's bound times the half-widths.
 ghost use mathlib.Core.Path.{_≡_};
-ghost use Rattle.calls.specs.Derivatives.{widened, across, wideGradient, hessianSpread, onDiagonal, offDiagonal, hessianAt, noDerivatives, derivatives};
+ghost use Rattle.calls.specs.Derivatives.{widened, across, wideGradient, hessianSpread};
+ghost use Rattle.calls.specs.Derivatives.{opposite, onDiagonal, offDiagonal, hessianAt, noDerivatives, derivatives};
 use crate::Derivatives;
 use grade::Piece;
 use gyroid::Gyroid;
+use gyroid::Surface;
 use gyroid::Waves;
 use gyroid::expand::centre;
 use gyroid::expand::radii;
@@ -48,21 +50,27 @@ fn hessian_spread(k: Interval, k2: Interval, r: [Interval; 3]) -> f64
     Interval::point(2.0 * k3).mul(Interval::point(reach)).hi
 }
 
+// 0 − v k², widened.
+fn opposite(v: Interval, k2: Interval, s: f64) -> Interval
+    ensures { λ r. ⌜ r ≡ opposite v k2 s ⌝ }
+{
+    widened(Interval::point(0.0).sub(v.mul(k2)), s)
+}
+
 fn on_diagonal(a: Interval, b: Interval, c: Interval, d: Interval, k2: Interval, s: f64) -> Interval
     ensures { λ r. ⌜ r ≡ onDiagonal a b c d k2 s ⌝ }
 {
-    let v = a.mul(b).add(c.mul(d)).mul(k2);
-    widened(Interval::point(0.0).sub(v), s)
+    opposite(a.mul(b).add(c.mul(d)), k2, s)
 }
 
 fn off_diagonal(a: Interval, b: Interval, k2: Interval, s: f64) -> Interval
     ensures { λ r. ⌜ r ≡ offDiagonal a b k2 s ⌝ }
 {
-    let v = a.mul(b).mul(k2);
-    widened(Interval::point(0.0).sub(v), s)
+    opposite(a.mul(b), k2, s)
 }
 
 fn hessian_at(
+    surface: Surface,
     sx: Interval,
     cx: Interval,
     sy: Interval,
@@ -72,15 +80,26 @@ fn hessian_at(
     k2: Interval,
     s: f64,
 ) -> [Interval; 9]
-    ensures { λ r. ⌜ r ≡ hessianAt sx cx sy cy sz cz k2 s ⌝ }
+    ensures { λ r. ⌜ r ≡ hessianAt surface sx cx sy cy sz cz k2 s ⌝ }
 {
-    let xx = on_diagonal(sx, cy, sz, cx, k2, s);
-    let yy = on_diagonal(sy, cz, sx, cy, k2, s);
-    let zz = on_diagonal(sz, cx, sy, cz, k2, s);
-    let xy = off_diagonal(cx, sy, k2, s);
-    let xz = off_diagonal(sx, cz, k2, s);
-    let yz = off_diagonal(cy, sz, k2, s);
-    [xx, xy, xz, xy, yy, yz, xz, yz, zz]
+    match surface {
+        Surface::Network => {
+            let xx = on_diagonal(sx, cy, sz, cx, k2, s);
+            let yy = on_diagonal(sy, cz, sx, cy, k2, s);
+            let zz = on_diagonal(sz, cx, sy, cz, k2, s);
+            let xy = off_diagonal(cx, sy, k2, s);
+            let xz = off_diagonal(sx, cz, k2, s);
+            let yz = off_diagonal(cy, sz, k2, s);
+            [xx, xy, xz, xy, yy, yz, xz, yz, zz]
+        }
+        Surface::Primitive => {
+            let xx = opposite(cx, k2, s);
+            let yy = opposite(cy, k2, s);
+            let zz = opposite(cz, k2, s);
+            let off = widened(Interval::point(0.0), s);
+            [xx, off, off, off, yy, off, off, off, zz]
+        }
+    }
 }
 
 impl Derivatives {
@@ -107,16 +126,17 @@ pub fn derivatives(leaf: Gyroid, world: [Interval; 3], piece: Piece) -> Derivati
     let Waves::Found(sx, cx, sy, cy, sz, cz) = leaf.waves(centre(world)) else {
         return Derivatives::none(0);
     };
+    let surface = leaf.surface;
     let k = leaf.wave;
     let k2 = leaf.wave_squared;
     let slope = levels.piece_gradient(piece);
     let r = radii(world);
-    let g = gradient_at(sx, cx, sy, cy, sz, cz, k);
+    let g = gradient_at(surface, sx, cx, sy, cy, sz, cz, k);
     let s = hessian_spread(k, k2, r);
     Derivatives {
         refusal: 0,
         found: true,
         gradient: wide_gradient(g, slope, k2, r),
-        hessian: hessian_at(sx, cx, sy, cy, sz, cz, k2, s),
+        hessian: hessian_at(surface, sx, cx, sy, cy, sz, cz, k2, s),
     }
 }

@@ -4,7 +4,7 @@ use borrow.Author.Needs.{needs}
 use Rattle.exact.proofs.Signed.{back}
 use Rattle.grade.specs.Said.{found, refusing}
 use Rattle.grade.proofs.RefusalLaws.{refused-is, answer-is}
-use Rattle.gyroid.proofs.LeafLaws.{number-is, grade-is}
+use Rattle.gyroid.proofs.LeafLaws.{number-is, surface-is, grade-is}
 use Rattle.calls.specs.Calls.{saturatedBy, saturatedCall}
 use Rattle.calls.proofs.calls.saturated.Statement.{statement}
 use Rattle.calls.proofs.calls.saturated.Tie as tie
@@ -28,9 +28,15 @@ returns-2 c =
     let c8 = c7 .before in
     let d = c8 .args .description in
     let n = number-is d (c7 .certified .ensures) in
-    let g = grade-is d (c7 .certified .ensures) (sym n ∙ c5 .if1 .left) in
-    let start = back {x = c7 .certified .result .leaf .grade .linear .start} (record { sfits = c .before .struct-told .given .1 .1 .1 .0 .1 }) in
-    answer-is _ n (c5 .if1 .left) (c .saturation .ensures ∙ (λ k. found (saturatedBy (c7 .certified .result .leaf .grade .kind) (start k))) ∙ (λ k. found (saturatedBy (g k .kind) (g k .linear .start))))
+    let z = sym n ∙ c5 .if1 .left in
+    let f = surface-is d (c7 .certified .ensures) z in
+    let g = grade-is d (c7 .certified .ensures) z in
+    let l = c7 .certified .result .leaf in
+    let start = back {x = l .grade .linear .start} (record { sfits = c .before .struct-told .given .1 .1 .1 .0 .1 }) in
+    answer-is _ n (c5 .if1 .left)
+    (c .saturated-by .ensures
+    ∙ (λ k. found (saturatedBy (l .surface) (l .grade .kind) (start k)))
+    ∙ (λ k. found (saturatedBy (f k) (g k .kind) (g k .linear .start))))
 
 pub saturated-spec : {M : Type 1} → statement M
 saturated-spec = tie.close (tie.spec certified-requires returns (λ _ _. tt) returns-2)

@@ -5,12 +5,7 @@ use Rattle.calls.proofs.hessian.off_diagonal.Tie as tie
 
 returns : tie.Need-returns
 unfolding offDiagonal
-returns c =
-    let c3 = c .before .before .before in
-    let c4 = c3 .before in
-    rw (c .widened .ensures, c .before .sub .ensures, c .before .before .point .ensures, c3 .mul2 .ensures, c4 .mul .ensures)
+returns c = rw (c .opposite .ensures, c .before .mul .ensures)
 
 pub off-diagonal-spec : {M : Type 1} → statement M
-off-diagonal-spec =
-    tie.close
-    (tie.spec (λ _ _. tt) (λ _ _. tt) (λ _ _. tt) (λ _ _. tt) (λ _ _. tt) returns)
+off-diagonal-spec = tie.close (tie.spec (λ _ _. tt) (λ _ _. tt) returns)

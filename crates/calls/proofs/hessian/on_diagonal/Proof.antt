@@ -7,12 +7,7 @@ returns : tie.Need-returns
 unfolding onDiagonal
 returns c =
     let c3 = c .before .before .before in
-    let c4 = c3 .before in
-    let c5 = c4 .before in
-    let c6 = c5 .before in
-    rw (c .widened .ensures, c .before .sub .ensures, c .before .before .point .ensures, c3 .mul3 .ensures, c4 .add .ensures, c5 .mul2 .ensures, c6 .mul .ensures)
+    rw (c .opposite .ensures, c .before .add .ensures, c .before .before .mul2 .ensures, c3 .mul .ensures)
 
 pub on-diagonal-spec : {M : Type 1} → statement M
-on-diagonal-spec =
-    tie.close
-    (tie.spec (λ _ _. tt) (λ _ _. tt) (λ _ _. tt) (λ _ _. tt) (λ _ _. tt) (λ _ _. tt) (λ _ _. tt) returns)
+on-diagonal-spec = tie.close (tie.spec (λ _ _. tt) (λ _ _. tt) (λ _ _. tt) (λ _ _. tt) returns)
