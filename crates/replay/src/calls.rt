@@ -1,6 +1,6 @@
-// The list of the original's answers to the public calls. A record begins with a word of bytes: the call, how many words it takes, how many
-// words answer it, the status, the piece. The words follow: doubles by their bits, whole numbers as 2^62 more than themselves. Call 0 takes
-// the 18 entries of the description that the records after it are about.
+// The list of answers to the public calls, the original's or document 02's. A record begins with a word of bytes: the call, how many words
+// it takes, how many words answer it, the status, the piece. The words follow: doubles by their bits, whole numbers as 2^62 more than
+// themselves. Call 0 takes the 18 entries of the description that the records after it are about.
 ghost use Prim.Native.Nat.{_≤_};
 ghost use lib.ListN.{length};
 use crate::tally::Tally;

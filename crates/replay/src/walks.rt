@@ -1,6 +1,6 @@
-// The list of walks over the original's box state. A record begins with 27 words, whole numbers as 2^62 more than themselves: the 18 entries of
-// a description, a box, the depth, the bytes of the table, the status. The bytes that the walk leaves in the table follow, then zeros up to
-// a whole word.
+// The list of walks over the original's box state or document 02's. A record begins with 27 words, whole numbers as 2^62 more than
+// themselves: the 18 entries of a description, a box, the depth, the bytes of the table, the status. The bytes that the walk leaves in the
+// table follow, then zeros up to a whole word.
 ghost use Prim.Native.Nat.{_≤_};
 ghost use lib.ListN.{length};
 use crate::tally::Tally;

@@ -1,4 +1,5 @@
-//! Document 01's table of refusals, read once more: which number it gives a request, and whether the original lacks it.
+//! Document 01's table of refusals, read once more, with the kind that document 02 admits: which number it gives a request, and
+//! whether the original lacks it.
 
 use crate::entries::*;
 use request::{Call, Description, Request, Shape};
@@ -161,10 +162,15 @@ mod tests {
         assert_eq!(graded(with(&[(END, 4096)], PLAIN)), None);
         assert_eq!(graded(with(&[(END, -4097)], PLAIN)), Some(1));
         assert_eq!(graded(with(&[(FROM, TICKS + 1)], PLAIN)), Some(1));
-        assert_eq!(graded(with(&[(KIND, 2)], PLAIN)), Some(1));
         assert_eq!(graded(with(&[(LEVEL_KIND, -1), (PERIOD, 0)], PLAIN)), Some(1));
         assert_eq!(graded(with(&[(17, i64::MIN)], PLAIN)), Some(1));
         assert_eq!(graded(ramp(-TICKS, 0, 1)), None);
+    }
+
+    #[test]
+    fn kinds() {
+        let numbers = [-1, NETWORK, SHEET, PRIMITIVE, 3].map(|kind| graded(with(&[(KIND, kind)], PLAIN)));
+        assert_eq!(numbers, [Some(1), None, Some(3), None, Some(1)]);
     }
 
     #[test]

@@ -41,8 +41,9 @@ pub fn by_chance(call: Call, seed: u64, index: u64) -> Request {
     about(c, call, d)
 }
 
-/// A constant, a ramp along each axis, either way and at either slope's limit, and one that is refused.
-fn bases() -> [Description; 6] {
+/// Of either surface a constant, a ramp along each axis, either way and at either slope's limit, and equal ends; and one that is
+/// refused.
+fn bases() -> Vec<Description> {
     let ramp = |axis: usize, from: i64, to: i64, start: i64, end: i64| {
         let mut d = PLAIN;
         (d[LEVEL_KIND], d[START], d[END]) = (LINEAR, start, end);
@@ -51,14 +52,15 @@ fn bases() -> [Description; 6] {
     };
     let mut refused = PLAIN;
     refused[PERIOD] = 0;
-    [
+    let networks = [
         PLAIN,
         ramp(0, 0, 10240, -256, 256),
         ramp(1, 1024, -4096, 256, -256),
         ramp(2, -TICKS, TICKS, 1, 0),
         ramp(0, 10240, 0, 7, 7),
-        refused,
-    ]
+    ];
+    let primitives = networks.map(primitive);
+    networks.into_iter().chain(primitives).chain([refused]).collect()
 }
 
 /// A box that is small, on no anchor plane, and in order.
@@ -200,10 +202,13 @@ mod tests {
 
     #[test]
     fn accepted_descriptions_are_accepted() {
+        let mut primitives = 0;
         for index in 0..20_000 {
             let d = descriptions::accepted(&mut Chance::new(7, 0, index));
             assert_eq!(added::refusal(&Request::new(Call::Graded, d)), None, "{d:?}");
+            primitives += u32::from(d[KIND] == PRIMITIVE);
         }
+        assert!((9_000..11_000).contains(&primitives), "{primitives} of the primitive surface");
     }
 
     #[test]

@@ -18,8 +18,9 @@ fn period(c: &mut Chance) -> i64 {
 }
 
 fn level(c: &mut Chance) -> i64 {
-    match c.below(3) {
-        0 => c.one_of(&[0, 1, RAMP, RAMP + 1, 1535, 1536, 1537, COUNTS]) * c.sign(),
+    match c.below(6) {
+        0 => c.one_of(&[0, 1, RAMP, RAMP + 1, COUNTS]) * c.sign(),
+        1 => (c.one_of(&SATURATED).1 + c.between(-1, 1)) * c.sign(),
         _ => c.between(-COUNTS, COUNTS),
     }
 }
@@ -84,9 +85,10 @@ fn constant(c: &mut Chance, d: &mut Description) {
     }
 }
 
-/// A description that document 01 accepts.
+/// A description that is accepted, of either surface.
 pub fn accepted(c: &mut Chance) -> Description {
     let mut d = PLAIN;
+    d[KIND] = c.one_of(&[NETWORK, PRIMITIVE]);
     match c.below(8) {
         0 | 1 => constant(c, &mut d),
         2 => equal_ends(c, &mut d),

@@ -1,4 +1,4 @@
-//! Where a description's entries stand, and document 01's limits.
+//! Where a description's entries stand, and the limits of documents 01 and 02.
 
 use request::Description;
 use std::ops::RangeInclusive;
@@ -16,6 +16,7 @@ pub const X: usize = 12;
 
 pub const NETWORK: i64 = 0;
 pub const SHEET: i64 = 1;
+pub const PRIMITIVE: i64 = 2;
 pub const CONSTANT: i64 = 0;
 pub const LINEAR: i64 = 1;
 pub const DISTANCE: i64 = 2;
@@ -26,14 +27,22 @@ pub const TICKS: i64 = 1 << 20;
 pub const COUNTS: i64 = 4096;
 /// The ends of a ramp, in counts.
 pub const RAMP: i64 = 256;
+/// The constant level from which each surface saturates, in counts.
+pub const SATURATED: [(i64, i64); 2] = [(NETWORK, 1536), (PRIMITIVE, 3072)];
 
 /// A network of period 10 mm in the part frame, at the constant level 0.
 pub const PLAIN: Description = [10240, 0, 0, 0, 0, 0, 0, 0, 0, 0, 0, 1, 0, 0, 0, 0, 0, 0];
 
+/// The same with the primitive surface.
+pub fn primitive(mut d: Description) -> Description {
+    d[KIND] = PRIMITIVE;
+    d
+}
+
 /// The limits of an entry.
 pub fn limits(entry: usize) -> RangeInclusive<i64> {
     match entry {
-        KIND => NETWORK..=SHEET,
+        KIND => NETWORK..=PRIMITIVE,
         LEVEL_KIND => CONSTANT..=DISTANCE,
         START | END => -COUNTS..=COUNTS,
         _ => -TICKS..=TICKS,

@@ -1,5 +1,5 @@
-//! The proved library beside the original Rust. Each module has one part of the comparison; the programs `ask`,
-//! `differ`, `list` and `bench` put them together.
+//! The proved library beside the original Rust, and beside document 02's lines for the surface that the original lacks.
+//! Each module has one part of the comparison; the programs `ask`, `differ`, `list` and `bench` put them together.
 
 pub mod added;
 pub mod boxes;

@@ -1,4 +1,5 @@
-//! The fixed list of the original's answers that the program `replay` reads, as bytes. crates/replay/src/calls.rt says how.
+//! The fixed list of the original's answers, and of document 02's, that the program `replay` reads, as bytes.
+//! crates/replay/src/calls.rt says how.
 
 use crate::chance::Chance;
 use crate::entries::*;
@@ -6,8 +7,8 @@ use crate::{added, cases, descriptions};
 use request::{Answer, Call, Description, Request, Value};
 
 const SEED: u64 = 1;
-/// Descriptions that document 01 accepts, and others, some of which it refuses.
-const ACCEPTED: u64 = 56;
+/// Descriptions of either surface that are accepted, and others, some of which are refused.
+const ACCEPTED: u64 = 84;
 const OTHERS: u64 = 40;
 /// Requests of each call about an accepted description.
 const REQUESTS: u64 = 4;
@@ -90,7 +91,7 @@ fn answered(request: &Request, answer: &Answer) -> Option<(u8, Vec<u64>)> {
     }
 }
 
-/// The original's answer, or the refusal that document 01 adds.
+/// The original's answer or document 02's, or the refusal that document 01 adds.
 fn expected(request: &Request) -> Answer {
     added::added(request).map_or_else(|| reference::answer(request), Answer::Refused)
 }
@@ -135,9 +136,32 @@ fn about(c: &mut Chance, d: &Description, requests: u64, out: &mut Vec<u8>) {
     }
 }
 
+/// Every kind, one less and one more: the same request of every call.
+fn kinds(out: &mut Vec<u8>) {
+    for kind in limits(KIND).start() - 1..=limits(KIND).end() + 1 {
+        let mut d = PLAIN;
+        d[KIND] = kind;
+        about(&mut Chance::new(SEED, 2, 0), &d, 1, out);
+    }
+}
+
+/// Either surface at every level from which one of them saturates and beside it: the calls that take a description alone.
+fn saturation(out: &mut Vec<u8>) {
+    let levels = SATURATED.map(|(_, level)| [level - 1, level, level + 1]);
+    for level in levels.as_flattened().iter().flat_map(|level| [*level, -level]) {
+        for (kind, _) in SATURATED {
+            let mut d = PLAIN;
+            (d[KIND], d[START]) = (kind, level);
+            about(&mut Chance::new(SEED, 2, 0), &d, 0, out);
+        }
+    }
+}
+
 /// The list.
 pub fn list() -> Vec<u8> {
     let mut out = Vec::new();
+    kinds(&mut out);
+    saturation(&mut out);
     for index in 0..ACCEPTED {
         let c = &mut Chance::new(SEED, 0, index);
         let d = descriptions::accepted(c);

@@ -1,6 +1,6 @@
 //! Numbers that boundaries are made of.
 
-use crate::entries::{COUNTS, RAMP, TICKS};
+use crate::entries::{COUNTS, RAMP, SATURATED, TICKS};
 
 /// Special doubles: every boundary of the format, of document 01 and of the series, with its neighbours and either sign.
 pub fn doubles() -> Vec<f64> {
@@ -30,11 +30,13 @@ pub fn doubles() -> Vec<f64> {
     all
 }
 
-/// Special whole numbers: every limit of document 01, and one more.
+/// Special whole numbers: every limit of documents 01 and 02, and one more or one less.
 pub fn whole() -> Vec<i64> {
     let mut all = vec![0, i64::MIN, i64::MAX];
-    for size in [1, 2, 3, RAMP, RAMP + 1, 1536, COUNTS, COUNTS + 1, 10240, TICKS - 1, TICKS, TICKS + 1, 1 << 32] {
-        all.extend([size, -size]);
+    let saturated = SATURATED.map(|(_, level)| [level - 1, level]);
+    let sizes = [1, 2, 3, RAMP, RAMP + 1, COUNTS, COUNTS + 1, 10240, TICKS - 1, TICKS, TICKS + 1, 1 << 32];
+    for size in sizes.iter().chain(saturated.as_flattened()) {
+        all.extend([*size, -size]);
     }
     all
 }

@@ -1,5 +1,6 @@
 //! Judges a request by both sides' answers, and counts.
 
+use crate::entries::{KIND, PRIMITIVE};
 use crate::{added, cases, original, ours, shrink};
 use request::{Answer, Call, Request};
 use std::collections::BTreeMap;
@@ -101,6 +102,8 @@ type Kinds = [(u8, u32); 2];
 pub struct Tally {
     pub cases: u64,
     pub values: u64,
+    /// Those of the values that are about the primitive surface.
+    pub primitive: u64,
     pub refusals: u64,
     pub none: u64,
     pub added: BTreeMap<u32, u64>,
@@ -119,8 +122,8 @@ impl Tally {
                 self.otherwise.entry(key).or_default().see(index, request);
             }
             (None, Answer::None) => self.none += 1,
-            (None, Answer::Found(_)) => self.values += 1,
-            (None, Answer::Walked(walked)) if walked.refused().is_none() => self.values += 1,
+            (None, Answer::Found(_)) => self.found(request),
+            (None, Answer::Walked(walked)) if walked.refused().is_none() => self.found(request),
             (None, _) => self.refusals += 1,
         }
         if judged.differs() {
@@ -129,9 +132,17 @@ impl Tally {
         }
     }
 
+    fn found(&mut self, request: &Request) {
+        self.values += 1;
+        // A level has no surface.
+        let primitive = request.call != Call::GradeRange && request.description[KIND] == PRIMITIVE;
+        self.primitive += u64::from(primitive);
+    }
+
     fn merge(mut self, other: Tally) -> Tally {
         self.cases += other.cases;
         self.values += other.values;
+        self.primitive += other.primitive;
         self.refusals += other.refusals;
         self.none += other.none;
         for (n, count) in other.added {
@@ -150,7 +161,7 @@ impl Tally {
     pub fn smallest_otherwise(&self, key: (u32, Otherwise)) -> Option<Request> {
         self.otherwise
             .get(&key)?
-            .shrunk(|request| added::added(request) == Some(key.0) && otherwise(&reference::answer(request)) == key.1)
+            .shrunk(|request| added::added(request) == Some(key.0) && otherwise(&original::answer(request)) == key.1)
     }
 
     /// The smallest request on which the sides differ in this way.

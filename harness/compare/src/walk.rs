@@ -1,5 +1,5 @@
-//! Document 01's walk in plain Rust over the original's box state, which is all that the original has of it. The tree
-//! is walked twice: to count it, then to write it.
+//! Document 01's walk in plain Rust over the original's box state, which is all that the original has of it; for the
+//! primitive surface over document 02's. The tree is walked twice: to count it, then to write it.
 
 use crate::added;
 use reference::Leaf;

@@ -39,10 +39,13 @@ fn exact(description: Description, whole: [i64; 6], depth: i64) -> Request {
     request
 }
 
-/// Constants of several periods, a linear level with equal ends among them: depths 0 to 7 of boxes below, about and above the origin.
+/// Constants of several periods, a linear level with equal ends among them and the primitive surface: depths 0 to 7 of boxes below,
+/// about and above the origin.
 fn constants(out: &mut Vec<Request>) {
     let equal = ramp(4096, 1, [-3, 5], [-300, -300]);
-    for d in [constant(10240, 0), constant(1024, 600), constant(3001, -700), equal] {
+    let networks = [constant(10240, 0), constant(1024, 600), constant(3001, -700), equal];
+    let primitives = [constant(10240, 1500), constant(3001, 300)].map(primitive);
+    for d in networks.into_iter().chain(primitives) {
         let period = d[PERIOD];
         for depth in 0..8 {
             let low = [-period, -1 - period / 8, depth * period / 16];
@@ -59,6 +62,8 @@ fn ramps(out: &mut Vec<Request>) {
         (1, ramp(2048, 1, [1024, -4096], [256, -256])),
         (2, ramp(1500, 2, [-5000, -2000], [0, 200])),
         (0, ramp(TICKS, 0, [TICKS / 2, -TICKS / 2], [1, 0])),
+        (0, primitive(ramp(10240, 0, [0, 10240], [-256, 256]))),
+        (2, primitive(ramp(1500, 2, [-5000, -2000], [0, 200]))),
     ];
     for (axis, d) in ramps {
         let (start, end) = (d[FROM + axis], d[TO + axis]);
@@ -127,7 +132,8 @@ fn broken(row: fn(&mut Request), mut request: Request) -> Request {
     request
 }
 
-/// Every row of the refusal table that a walk can break, the walk's own in pairs and each of the others with one of them.
+/// Every row of the refusal table that a walk can break, the walk's own in pairs and each of the others with one of them; and every
+/// kind, one less and one more.
 fn refusals(out: &mut Vec<Request>) {
     let accepted = Request { table: 100, ..exact(PLAIN, [-9, 0, 3, 9, 8, 9], 2) };
     for (i, first) in walks::ROWS.into_iter().enumerate() {
@@ -147,6 +153,12 @@ fn refusals(out: &mut Vec<Request>) {
     let cut: [fn(&mut Request); 3] =
         [|r| r.description[PERIOD] += 1 << 32, |r| r.whole[3] += 1 << 32, |r| r.depth += 1 << 32];
     out.extend(cut.map(|row| broken(row, accepted)));
+    let kinds = limits(KIND).start() - 1..=limits(KIND).end() + 1;
+    out.extend(kinds.map(|kind| {
+        let mut request = accepted;
+        request.description[KIND] = kind;
+        request
+    }));
 }
 
 fn chances(out: &mut Vec<Request>) {

@@ -1,4 +1,5 @@
 //! The original Rust, compiled whole and unchanged over stand-ins that are written from document 01's words, and asked by request.
+//! Beside it stands the primitive surface, a port of document 02's lines over the original's `turn` and levels.
 //!
 //! Its two files are fetched when this crate is built; they are no part of this repository. Where they are missing the crate still
 //! builds, and every answer is `Unavailable`.
@@ -39,6 +40,9 @@ mod gyroid {
     include!(concat!(env!("OUT_DIR"), "/gyroid.rs"));
 
     pub(crate) mod access;
+    mod field;
+    mod ported;
+    mod surfaces;
 }
 
 /// Whether the original is compiled in.
@@ -66,19 +70,36 @@ impl Leaf {
     }
 }
 
-/// The original's own answer to a request. It has no walk.
 #[cfg(original)]
-pub fn answer(request: &Request) -> Answer {
-    match quiet::caught(|| gyroid::access::answer(request)) {
+fn caught(request: &Request, ask: fn(&Request) -> Answer) -> Answer {
+    match quiet::caught(|| ask(request)) {
         Ok(answer) => answer,
         Err(payload) if payload.is::<Overflow>() => Answer::Unmade,
         Err(_) => Answer::Panicked,
     }
 }
 
+/// The original's own answer to a request; about the primitive surface document 02's. It has no walk.
+#[cfg(original)]
+pub fn answer(request: &Request) -> Answer {
+    caught(request, gyroid::access::answer)
+}
+
+/// The answer about the network by the code that answers for the primitive surface, to hold that against the original.
+#[cfg(original)]
+pub fn ported(request: &Request) -> Answer {
+    caught(request, gyroid::access::ported)
+}
+
 /// The original is not at hand.
 #[cfg(not(original))]
 pub fn answer(_: &Request) -> Answer {
+    Answer::Unavailable
+}
+
+/// The original is not at hand.
+#[cfg(not(original))]
+pub fn ported(_: &Request) -> Answer {
     Answer::Unavailable
 }
 

@@ -18,7 +18,7 @@ const HELP: &str = "ask [--reference]: one request a line on standard input, one
 A walk's answer is cells, evaluated, solid, open, then state, lows, highs of each cell.
 Answers: the values, `none`, `refused N`, or `error: ..` for a line that is no request (the exit status is then 1).
 With --reference the original answers, or `panicked`, or `unmade` where the input cannot be made into its types;
-to a walk a plain one over the original's box_state.";
+to a walk a plain one over the original's box_state. Of the primitive surface (d2 is 2) document 02's lines answer.";
 
 /// One answer a line; whether every line was a request.
 fn answer_all(answer: fn(&Request) -> Answer) -> io::Result<bool> {

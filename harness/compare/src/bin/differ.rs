@@ -1,4 +1,4 @@
-//! Compares every answer of the proved library with the original's.
+//! Compares every answer of the proved library with the original's; about the primitive surface with document 02's.
 
 use compare::{report, slices, tally};
 use request::Call;
@@ -13,6 +13,9 @@ COUNT (2000) cases by chance for each of the 17 calls, from SEED (1), in additio
 every entry at every special number, every pair of the refusal table's rows, every pair of special doubles and of special ticks as
 the ends of each axis. A zero's sign is open, and fractions are compared by value. Of a walk every byte of the table is compared,
 refused or not, with a plain walk over the original's box_state.
+
+Half of the descriptions are of the network and half of the primitive surface, which the original does not know: there document 02's
+lines stand in its place.
 
 `added N` counts requests that document 01 refuses by N where the original has no such refusal; ours must be that refusal.
 The exit status is 1 where an answer differs. Where the original is not at hand only the lent slices are checked.";

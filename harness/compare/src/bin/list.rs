@@ -1,4 +1,5 @@
-//! Writes a fixed list of the original's answers to standard output: `calls`, which is the one that is meant without a word, or `walks`.
+//! Writes a fixed list of the original's answers, and of document 02's, to standard output: `calls`, which is the one that is meant
+//! without a word, or `walks`.
 
 use std::env;
 use std::io::{self, Write};

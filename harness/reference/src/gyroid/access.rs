@@ -1,5 +1,8 @@
 //! Asks the original by request, or by box. A child of the original's module, so that it reaches what is private there.
 
+use super::field::Field;
+use super::ported::Ported;
+use super::surfaces::{Network, Primitive};
 use super::{Gyroid, Jet};
 use crate::grade::{Piece, grade_range};
 use crate::lattice::BoxState;
@@ -9,7 +12,10 @@ use request::{Answer, Call, Description, Request, Value};
 /// Ticks in a millimetre, and level counts in a level.
 const UNIT: i64 = 1024;
 
-fn ticks(n: i64) -> Rational {
+/// Document 02's kind.
+const PRIMITIVE: i64 = 2;
+
+pub(super) fn ticks(n: i64) -> Rational {
     Rational::from_ratio(n, UNIT).expect("1024 is not 0")
 }
 
@@ -27,9 +33,10 @@ fn level(d: &Description) -> Option<Grade> {
     }
 }
 
+/// The primitive surface, which the original does not know, is compiled as its network.
 fn kind(d: &Description) -> Option<GyroidKind> {
     match d[1] {
-        0 => Some(GyroidKind::Network),
+        0 | PRIMITIVE => Some(GyroidKind::Network),
         1 => Some(GyroidKind::Sheet),
         _ => None,
     }
@@ -106,7 +113,8 @@ fn range(request: &Request) -> Option<Answer> {
 }
 
 /// The answer of a compiled leaf; nothing where the request's doubles or its piece cannot be made.
-fn on_leaf(leaf: &Gyroid, request: &Request) -> Option<Answer> {
+fn on_leaf(field: &dyn Field, request: &Request) -> Option<Answer> {
+    let leaf = field.leaf();
     let world = || intervals::<3>(request.doubles());
     let point = || std::array::from_fn(|i| request.doubles[i]);
     let found = match request.call {
@@ -122,73 +130,97 @@ fn on_leaf(leaf: &Gyroid, request: &Request) -> Option<Answer> {
                 })
             })
         }
-        Call::Jet => leaf.jet(world()?).map(jet),
-        Call::AffineJet => leaf.affine_jet(world()?).map(jet),
+        Call::Jet => field.jet(world()?).map(jet),
+        Call::AffineJet => field.affine_jet(world()?).map(jet),
         Call::Derivatives => {
-            let found = leaf.derivatives(&world()?, piece(request.piece)?);
+            let found = field.derivatives(&world()?, piece(request.piece)?);
             found.map(|(gradient, hessian)| ends(gradient.into_iter().chain(hessian.into_iter().flatten())))
         }
-        Call::Residual => leaf.residual(&world()?).map(|value| ends([value])),
-        Call::AffineResidual => leaf.affine_residual(&world()?).map(|value| ends([value])),
-        Call::BoxState => Some(match leaf.box_state(&world()?, &mut Decider) {
+        Call::Residual => field.residual(&world()?).map(|value| ends([value])),
+        Call::AffineResidual => field.affine_residual(&world()?).map(|value| ends([value])),
+        Call::BoxState => Some(match field.box_state(&world()?) {
             Ok(state) => Answer::number(state_number(state).into()),
             Err(refusal) => refused(refusal),
         }),
         Call::FacetResidual => {
             let [a, b, c, d, e, f, g, h, i] = intervals::<9>(request.doubles())?;
             let corners = [[a, b, c], [d, e, f], [g, h, i]];
-            leaf.facet_residual(&corners).map(|value| ends([value]))
+            field.facet_residual(&corners).map(|value| ends([value]))
         }
         Call::Curvature => Some(ends([leaf.curvature()])),
         Call::Lipschitz => Some(ends([leaf.lipschitz()])),
-        Call::Saturated => leaf.saturated().map(|truth| Answer::number(truth.into())),
+        Call::Saturated => field.saturated().map(|truth| Answer::number(truth.into())),
         Call::Graded => Some(Answer::number(leaf.graded().into())),
         Call::Planes => leaf.level_planes().map(|(axis, positions)| {
             let axis = Value::Number(axis as i64);
             let positions = positions.iter().map(counts);
             Answer::Found(std::iter::once(axis).chain(positions).collect())
         }),
-        Call::FastDistance => Some(Answer::doubles([leaf.fast_distance(point())])),
+        Call::FastDistance => Some(Answer::doubles([field.fast_distance(point())])),
         Call::Fast => Some(Answer::doubles([leaf.grade.fast(point())])),
     };
     Some(found.unwrap_or(Answer::None))
 }
 
-/// The compiled leaf; nothing where a kind is none of the original's cases.
+/// The compiled leaf; nothing where a kind is none of the original's cases and not the primitive surface.
 fn certified(d: &Description) -> Option<Result<Gyroid, Refusal>> {
     Some(Gyroid::certified(&ticks(d[0]), &level(d)?, kind(d)?, &frame(d)))
 }
 
-fn on_description(request: &Request) -> Option<Answer> {
+/// The surface of a description over its compiled leaf.
+fn surface(d: &Description, leaf: Gyroid) -> Box<dyn Field> {
+    match d[1] {
+        PRIMITIVE => Box::new(Ported::<Primitive>::new(leaf)),
+        _ => Box::new(leaf),
+    }
+}
+
+/// The network by the port.
+fn ported_network(_: &Description, leaf: Gyroid) -> Box<dyn Field> {
+    Box::new(Ported::<Network>::new(leaf))
+}
+
+type Made = fn(&Description, Gyroid) -> Box<dyn Field>;
+
+fn on_description(request: &Request, made: Made) -> Option<Answer> {
     match certified(&request.description)? {
-        Ok(leaf) => on_leaf(&leaf, request),
+        Ok(leaf) => on_leaf(&*made(&request.description, leaf), request),
         Err(refusal) => Some(refused(refusal)),
     }
 }
 
-pub(crate) fn answer(request: &Request) -> Answer {
-    let made = match request.call {
+fn asked(request: &Request, made: Made) -> Answer {
+    let answer = match request.call {
         Call::GradeRange => range(request),
         Call::Walk => return Answer::Unavailable,
-        _ => on_description(request),
+        _ => on_description(request, made),
     };
-    made.unwrap_or(Answer::Unmade)
+    answer.unwrap_or(Answer::Unmade)
 }
 
-/// A compiled leaf of the original, to be asked about box after box.
-pub struct Leaf(Gyroid);
+pub(crate) fn answer(request: &Request) -> Answer {
+    asked(request, surface)
+}
+
+/// The port's answer where the original's is about the network.
+pub(crate) fn ported(request: &Request) -> Answer {
+    asked(request, ported_network)
+}
+
+/// A compiled leaf, to be asked about box after box.
+pub struct Leaf(Box<dyn Field>);
 
 impl Leaf {
     /// Nothing where the original refuses the description.
     pub fn new(d: &Description) -> Option<Self> {
-        certified(d)?.ok().map(Leaf)
+        certified(d)?.ok().map(|leaf| Leaf(surface(d, leaf)))
     }
 
     /// The number of the state of a box of whole ticks, "its ends n/1024 exactly".
     pub fn state(&self, bounds: &[i64; 6]) -> u32 {
         let end = |i: usize| bounds[i] as f64 / UNIT as f64;
         let world = [0, 1, 2].map(|i| Interval::new(end(i), end(i + 3)).expect("a span is not below 0"));
-        let state = self.0.box_state(&world, &mut Decider);
+        let state = self.0.box_state(&world);
         state_number(state.unwrap_or_else(|refusal| unreachable!("code {}", refusal.code)))
     }
 }
