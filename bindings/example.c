@@ -21,7 +21,9 @@ static int refused(uint32_t status) {
 
 static int ask(void) {
     /* A network of period 10 mm at the constant level 2, in the part frame. */
-    const int64_t description[GYROID_DESCRIPTION] = {10240, 0, 0, 0, 0, 0, 0, 0, 0, 2048, 0, 1, 0, 0, 0, 0, 0, 0};
+    const int64_t description[GYROID_DESCRIPTION] = {
+        10240, GYROID_NETWORK, 0, 0, 0, 0, 0, 0, 0, 2048, 0, 1, 0, 0, 0, 0, 0, 0,
+    };
     /* The lower half of a millimetre cube. */
     const double world[6] = {0.0, 0.5, 0.0, 1.0, 0.0, 1.0};
     int64_t state;

@@ -43,10 +43,16 @@
  *
  * A description is 18 whole numbers, in ticks of 1/1024 mm and level counts of 1/1024:
  *
- *   period, kind (0 network, 1 sheet), level kind (0 constant, 1 linear, 2 distance),
+ *   period, kind (0 network, 1 sheet, 2 primitive), level kind (0 constant, 1 linear, 2 distance),
  *   from x y z, to x y z, start, end, rotation w x y z, translation x y z
  *
- * A description of another length is refused by 1.
+ * A description of another length is refused by 1, and so is another kind. A sheet is refused by 3. With X = 2 pi x /
+ * period, and likewise Y and Z, g is
+ *
+ *   GYROID_NETWORK     sin X cos Y + sin Y cos Z + sin Z cos X
+ *   GYROID_PRIMITIVE   cos X + cos Y + cos Z
+ *
+ * and the solid is where g is at most the level.
  *
  * `bounds` is a box of whole ticks, three lows and then three highs. `world` is a box of doubles in millimetres: the
  * low and the high end of x, then of y, then of z. An interval in `out` is its low and its high end.
@@ -95,6 +101,7 @@ enum {
 };
 
 enum { GYROID_DESCRIPTION = 18 };
+enum { GYROID_NETWORK = 0, GYROID_SHEET = 1, GYROID_PRIMITIVE = 2 };
 enum { GYROID_START = 0, GYROID_RAMP = 1, GYROID_END = 2 };
 enum { GYROID_INSIDE = 1, GYROID_OUTSIDE = 2, GYROID_UNSETTLED = 3 };
 enum { GYROID_SLOT = 32 };
@@ -183,8 +190,8 @@ uint32_t gyroid_curvature(const int64_t *description, size_t description_length,
  * none. */
 uint32_t gyroid_lipschitz(const int64_t *description, size_t description_length, double *out, size_t out_length);
 
-/* `out` (1): 1 where a constant level is at least 3/2, so that every point is in the network, 0 where it is at most
- * -3/2. Otherwise none. */
+/* `out` (1): 1 where a constant level is so high that every point is solid, from 3/2 on for the network and from 3 on
+ * for the primitive surface; 0 where it is so low that none is inside, up to -3/2 and up to -3. Otherwise none. */
 uint32_t gyroid_saturated(const int64_t *description, size_t description_length, int64_t *out, size_t out_length);
 
 /* `out` (1): 1 where the level is a ramp, 0 where it is constant. Never none. */

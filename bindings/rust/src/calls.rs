@@ -233,15 +233,16 @@ pub fn lipschitz(description: &Description) -> Result<Interval, Refusal> {
     Ok(interval(&row, 0))
 }
 
-/// `true` where a constant level is at least 3/2, so that every point is in the network, `false` where it is at most
-/// −3/2.
+/// `true` where a constant level is so high that every point is solid, from 3/2 on for the network and from 3 on for the
+/// primitive surface; `false` where it is so low that none is inside, up to −3/2 and up to −3.
 ///
 /// ```
-/// use gyroid_cells::{Description, saturated};
+/// use gyroid_cells::{Description, Surface, saturated};
 ///
-/// assert_eq!(saturated(&Description::constant(10240, 1536)), Ok(Some(true)));
-/// assert_eq!(saturated(&Description::constant(10240, -1536)), Ok(Some(false)));
-/// assert_eq!(saturated(&Description::constant(10240, 1535)), Ok(None));
+/// let network = |level| saturated(&Description::constant(10240, level));
+/// assert_eq!([1536, 1535, -1536].map(network), [Ok(Some(true)), Ok(None), Ok(Some(false))]);
+/// let primitive = |level| saturated(&Description::constant(10240, level).with_surface(Surface::Primitive));
+/// assert_eq!([3072, 3071, -3072].map(primitive), [Ok(Some(true)), Ok(None), Ok(Some(false))]);
 /// ```
 pub fn saturated(description: &Description) -> Result<Option<bool>, Refusal> {
     let found = on_description(raw::gyroid_saturated, description)?;

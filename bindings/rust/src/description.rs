@@ -2,7 +2,29 @@
 
 use core::fmt;
 
-/// A graded gyroid in whole ticks (1/1024 mm) and level counts (1/1024). Any number may stand in any entry: the calls
+/// The surface of a core: what g stands for in the calls, with X = 2πx/a, and likewise Y and Z. The solid is where g is
+/// at most the level.
+///
+/// The number is the description's kind. A sheet, kind 1, is refused by 3, and a kind that is none by 1.
+///
+/// ```
+/// use gyroid_cells::{Description, Interval, State, Surface, box_state};
+///
+/// // At the level 2 the network fills all space; the primitive surface leaves the origin open, where g is 3.
+/// let core = Description::constant(10240, 2048);
+/// let world = [Interval::new(0.0, 0.5); 3];
+/// assert_eq!(box_state(&core, world), Ok(State::Inside));
+/// assert_eq!(box_state(&core.with_surface(Surface::Primitive), world), Ok(State::Outside));
+/// ```
+#[derive(Clone, Copy, Debug, PartialEq, Eq, Hash)]
+pub enum Surface {
+    /// sin X cos Y + sin Y cos Z + sin Z cos X.
+    Network = 0,
+    /// cos X + cos Y + cos Z, with wider throats.
+    Primitive = 2,
+}
+
+/// A graded core in whole ticks (1/1024 mm) and level counts (1/1024). Any number may stand in any entry: the calls
 /// refuse what is outside document 01's limits, in unused entries too.
 ///
 /// Its text is the entries in document 01's order, with single spaces between.
@@ -17,7 +39,7 @@ use core::fmt;
 pub struct Description {
     /// The period in ticks.
     pub period: i64,
-    /// 0 network, 1 sheet.
+    /// 0 network, 1 sheet, 2 primitive: [`Surface`].
     pub kind: i64,
     /// 0 constant, 1 linear, 2 distance.
     pub level_kind: i64,
@@ -46,7 +68,7 @@ impl Description {
     pub fn constant(period: i64, level: i64) -> Self {
         Self {
             period,
-            kind: 0,
+            kind: Surface::Network as i64,
             level_kind: 0,
             from: [0; 3],
             to: [0; 3],
@@ -66,6 +88,32 @@ impl Description {
     /// ```
     pub fn linear(period: i64, from: [i64; 3], to: [i64; 3], start: i64, end: i64) -> Self {
         Self { level_kind: 1, from, to, end, ..Self::constant(period, start) }
+    }
+
+    /// The same with another surface.
+    ///
+    /// ```
+    /// use gyroid_cells::{Description, Surface, saturated};
+    ///
+    /// let network = Description::constant(10240, 2048);
+    /// let primitive = network.with_surface(Surface::Primitive);
+    /// assert_eq!((saturated(&network), saturated(&primitive)), (Ok(Some(true)), Ok(None)));
+    /// ```
+    pub fn with_surface(self, surface: Surface) -> Self {
+        Self { kind: surface as i64, ..self }
+    }
+
+    /// The surface; none where the kind is that of a sheet, or no kind.
+    ///
+    /// ```
+    /// use gyroid_cells::{Description, Surface};
+    ///
+    /// let core = Description::constant(10240, 2048);
+    /// assert_eq!(core.surface(), Some(Surface::Network));
+    /// assert_eq!(Description { kind: 1, ..core }.surface(), None);
+    /// ```
+    pub fn surface(&self) -> Option<Surface> {
+        [Surface::Network, Surface::Primitive].into_iter().find(|surface| *surface as i64 == self.kind)
     }
 
     /// The entries in document 01's order.

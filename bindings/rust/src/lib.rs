@@ -1,9 +1,9 @@
 //! The evaluation behind the marks of graded gyroid cells, proved in Rattle, for Rust programs.
 //!
-//! A core is a [`Description`] in whole ticks (1/1024 mm) and level counts (1/1024). Each call takes a description and
-//! compiles it; nothing is kept between calls, nothing is allocated, and every call ends. What a call cannot work on it
-//! refuses by a number: [`Refusal`]. Where a call may find nothing, it answers an [`Option`]. [`walk`] marks a whole
-//! part box and leaves its cells in a table that the caller lends.
+//! A core is a [`Description`] in whole ticks (1/1024 mm) and level counts (1/1024), of one [`Surface`] or another. Each
+//! call takes a description and compiles it; nothing is kept between calls, nothing is allocated, and every call ends.
+//! What a call cannot work on it refuses by a number: [`Refusal`]. Where a call may find nothing, it answers an
+//! [`Option`]. [`walk`] marks a whole part box and leaves its cells in a table that the caller lends.
 //!
 //! ```
 //! use gyroid_cells::{Description, Interval, State, box_state, residual};
@@ -42,7 +42,7 @@ mod table;
 mod values;
 
 pub use calls::*;
-pub use description::Description;
+pub use description::{Description, Surface};
 pub use refusal::Refusal;
 pub use table::{Cell, Cells, Head, SLOT, Table};
 pub use values::{Bounds, Derivatives, Interval, Jet, Piece, Planes, Range, State, UnknownNumber};

@@ -1,6 +1,6 @@
-//! bindings/gyroid.h says the same as this crate: version, statuses, states, pieces, refusals.
+//! bindings/gyroid.h says the same as this crate: version, statuses, surfaces, states, pieces, refusals.
 
-use gyroid_cells::{Piece, Refusal, SLOT, State, raw};
+use gyroid_cells::{Description, Piece, Refusal, SLOT, State, Surface, graded, raw};
 use std::collections::BTreeMap;
 
 const HEADER: &str = include_str!("../../gyroid.h");
@@ -32,12 +32,25 @@ fn numbers() {
     same("GYROID_NONE", raw::NONE);
     same("GYROID_LENGTH", raw::LENGTH);
     same("GYROID_SLOT", SLOT as u32);
+    same("GYROID_NETWORK", Surface::Network as u32);
+    same("GYROID_PRIMITIVE", Surface::Primitive as u32);
     same("GYROID_START", Piece::Start as u32);
     same("GYROID_RAMP", Piece::Ramp as u32);
     same("GYROID_END", Piece::End as u32);
     same("GYROID_INSIDE", State::Inside as u32);
     same("GYROID_OUTSIDE", State::Outside as u32);
     same("GYROID_UNSETTLED", State::Unsettled as u32);
+}
+
+/// The kinds that have a name in the header are those that no call refuses by 1, and the sheet is the one refused by 3.
+#[test]
+fn kinds() {
+    let constants = constants();
+    let refusal = |kind| graded(&Description { kind, ..Description::constant(10240, 0) }).err().map(Refusal::number);
+    let named = ["GYROID_NETWORK", "GYROID_SHEET", "GYROID_PRIMITIVE"].map(|name| constants[name]);
+    assert_eq!(named.map(|kind| refusal(kind.into())), [None, Some(constants["GYROID_REFUSED_SHEET"]), None]);
+    let others = (-5..9).filter(|kind| named.iter().all(|name| i64::from(*name) != *kind));
+    others.for_each(|kind| assert_eq!(refusal(kind), Some(constants["GYROID_REFUSED_ENTRY"]), "{kind}"));
 }
 
 /// Every refusal of the crate has a name in the header, and every name there is one of them.

@@ -1,6 +1,6 @@
 //! Numbers and texts of what the calls take and answer, each way.
 
-use gyroid_cells::{Bounds, Description, Piece, Refusal, State, UnknownNumber};
+use gyroid_cells::{Bounds, Description, Piece, Refusal, State, Surface, UnknownNumber};
 
 /// The numbers below 200, and the largest, that a type knows.
 fn known<T: TryFrom<u32>>() -> Vec<u32> {
@@ -17,6 +17,15 @@ fn numbers_and_back() {
     }
     for piece in [Piece::Start, Piece::Ramp, Piece::End] {
         assert_eq!(Piece::try_from(piece as u32), Ok(piece));
+    }
+    let core = Description::linear(10240, [1, 2, 3], [4, 5, 6], 7, 8);
+    for surface in [Surface::Network, Surface::Primitive] {
+        let made = core.with_surface(surface);
+        assert_eq!(made.surface(), Some(surface));
+        assert_eq!(made.with_surface(Surface::Network), core);
+    }
+    for kind in [i64::MIN, -1, 1, 3, 1 << 32, i64::MAX] {
+        assert_eq!(Description { kind, ..core }.surface(), None);
     }
     for number in 1..=13 {
         assert_eq!(Refusal::try_from(number).map(Refusal::number), Ok(number));

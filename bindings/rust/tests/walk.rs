@@ -1,6 +1,6 @@
 //! The walk as a service calls it: document 01's listing, and each way that a table is left.
 
-use gyroid_cells::{Bounds, Cell, Description, Head, SLOT, State, Table, walk};
+use gyroid_cells::{Bounds, Cell, Description, Head, SLOT, State, Surface, Table, walk};
 
 const CUBE: Bounds = Bounds { low: [0; 3], high: [1024; 3] };
 
@@ -35,6 +35,15 @@ fn listing() {
     assert_eq!(Table::read(&bytes).unwrap().cells().collect::<Vec<_>>(), cells);
 }
 
+/// The listing's cube is open all over in the primitive surface of the same period and level.
+#[test]
+fn the_primitive_surface() {
+    let mut bytes = [7; 2 * SLOT];
+    let table = walk(&core().with_surface(Surface::Primitive), CUBE, 1, &mut bytes).unwrap();
+    assert_eq!(table.head(), Head { first: 1, cells: 1, evaluated: 1, solid: 0, open: 1 << 30 });
+    assert_eq!(table.cells().collect::<Vec<_>>(), [cell(State::Outside, CUBE.low, CUBE.high)]);
+}
+
 #[test]
 fn a_table_that_fits_and_one_that_is_a_byte_short() {
     assert!(walk(&core(), CUBE, 1, &mut [7; 3 * SLOT]).is_ok());
@@ -50,6 +59,7 @@ fn other_refusals_leave_the_table() {
     let kept = |number| (number, vec![7; 96]);
     assert_eq!(refused(core(), far, -1, 96), kept(1));
     assert_eq!(refused(Description::constant(0, 0), CUBE, 1, 96), kept(2));
+    assert_eq!(refused(Description { kind: 3, ..core() }, flat, -1, 96), kept(1));
     assert_eq!(refused(Description { kind: 1, ..core() }, flat, 1, 96), kept(3));
     assert_eq!(refused(Description::linear(10240, [0; 3], [9, 9, 0], 0, 1), CUBE, 1, 96), kept(4));
     assert_eq!(refused(Description::linear(10240, [0; 3], [9, 0, 0], 0, 1), CUBE, 1, 96), kept(5));
