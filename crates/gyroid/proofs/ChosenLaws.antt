@@ -2,17 +2,15 @@
 -- its state says. So no statement about all of them is empty. Assumes nothing.
 use mathlib.Core.Path.{_≡_, subst}
 use mathlib.Core.Bool.{not, _||_}
-use mathlib.Core.List.{List, [], _∷_}
+use mathlib.Core.List.{List}
 use Prim.Native.Nat.{ℕ}
-use lib.Dec.{T, lit<}
-use lib.IntN.{ℤ, pos}
+use lib.Dec.{T}
+use lib.IntN.{ℤ}
 use lib.Signed.{ltZ, leZ-yes, ltZ-no}
 use lib.Ieee.{ofBits}
-use Rattle.exact.specs.Fraction.{Fraction, whole, zeroF, _+F_, _*F_, _≤F_, _<F_, AbsF}
-use Rattle.exact.proofs.Ring.{lit, _⊕_, _⊗_}
-use Rattle.exact.proofs.FractionRing.{ringF}
-use Rattle.exact.proofs.Fraction.{≤F-refl, ≤F-trans, ≈F-le, ≈F-ge, add-monoF, over-mono, over-zero, num-nonneg, whole-le}
-use Rattle.exact.proofs.FractionSize.{abs-of-nonneg, square-nonneg}
+use Rattle.exact.specs.Fraction.{Fraction, whole, zeroF, _*F_, _≤F_, _<F_, AbsF}
+use Rattle.exact.proofs.Fraction.{≤F-refl, ≤F-trans, ≈F-ge, num-nonneg, whole-le}
+use Rattle.exact.proofs.FractionSize.{abs-of-nonneg}
 use Rattle.interval.specs.Interval.{twoPi}
 use Rattle.interval.specs.Encloses.{value, _∈_}
 use Rattle.grade.specs.Grade.{at, Point, ticks}

@@ -48,8 +48,8 @@ mark low high = boxState (leaf description) (tickBox (corner low) (corner high))
 
 marks : (mark (pos 0) (pos 64) ≡ State.Outside) × (mark (pos 480) (pos 544) ≡ State.Inside) × (mark (pos 224) (pos 288) ≡ State.Unsettled)
 unfolding ofBits toBits isNan neg add sub mul div lt le round upFrom nextUp nextDown sum difference product quotient negation square mid magnitude
-    fromRational quarterNumber constantDef compiled gradeIntervals leaf allFinite reduced horner sineAt cosineAt turned turn waves valueAt entryAt gradientAt jet
-    minus centre radius radii reach spread bracketAt secondOrder bound expanded expansion residual boxState
+    fromRational quarterNumber constantDef compiled gradeIntervals leaf allFinite reduced horner sineAt cosineAt turned turn waves valueAt entryAt
+    gradientAt jet minus centre radius radii reach spread bracketAt secondOrder bound expanded expansion residual boxState
 marks = (refl, refl, refl)
 
 above-zero : Some description (corner (pos 0)) (corner (pos 64)) (λ (x : Fraction). zeroF <F x)

@@ -1,7 +1,7 @@
 // The compiled leaf and its constructors. Its constants are made here once; nothing is divided again for a box but t by L.
 ghost use mathlib.Core.Path.{_≡_};
 ghost use Rattle.exact.specs.Within.{Within};
-ghost use Rattle.grade.specs.Fits.{DefFits, SlopeFits};
+ghost use Rattle.grade.specs.Fits.{SlopeFits};
 ghost use Rattle.gyroid.specs.Leaf.{surfaceOf, constantLevel, lipschitzTop, lipschitzBottom, leaf};
 ghost use Rattle.gyroid.specs.Constructors.{noLeaf, certified, new};
 ghost use Rattle.gyroid.specs.Fits.{Accepted};
