@@ -95,6 +95,10 @@ pub mul-ratio : (a b : Fraction) (E : 0 < a .den * b .den) → a *F b ≈F ratio
 unfolding _*F_
 mul-ratio a b E = record { eq = refl }
 
+pub sub-ratio : (a b : Fraction) (E : 0 < a .den * b .den) → a -F b ≈F ratio (a .num *ℤ denZ b -ℤ b .num *ℤ denZ a) (a .den * b .den) E
+unfolding _-F_
+sub-ratio a b E = record { eq = refl }
+
 pub neg-ratio : (a : Fraction) → negF a ≈F ratio (negℤ (a .num)) (a .den) (a .den-pos)
 unfolding negF
 neg-ratio a = record { eq = refl }

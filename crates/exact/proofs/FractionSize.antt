@@ -1,18 +1,19 @@
 -- Sizes of fractions, the lesser and the greater of two, and a fraction held to 0..l. Assumes nothing.
-use mathlib.Core.Bool.{not}
+use mathlib.Core.Bool.{Bool, true, false, not, _&&_}
 use mathlib.Core.Logic.{inl, inr}
 use mathlib.Core.Path.{_≡_, refl}
 use mathlib.Core.List.{[], _∷_}
 use Prim.Native.Nat.{ℕ, _<_}
-use lib.Dec.{T}
+use lib.Dec.{T, not-T}
 use lib.IntN.{pos}
 use lib.Signed.{ltZ-yes, ltZ-no}
-use Rattle.exact.specs.Fraction.{Fraction, zeroF, _+F_, _-F_, _*F_, _/F_, negF, _≤F_, _≈F_, AbsF, belowF, minF, maxF, heldF}
+use Rattle.exact.specs.Fraction.{Fraction, zeroF, _+F_, _-F_, _*F_, _/F_, negF, _≤F_, _≈F_, AbsF, belowF, equalF, minF, maxF, heldF}
 use Rattle.exact.proofs.Choice.{choose}
 use Rattle.exact.proofs.IntegerOrder.{square-nonnegℤ}
 use Rattle.exact.proofs.Ring.{lit, _⊕_, _⊗_, ⊝_}
 use Rattle.exact.proofs.FractionRing.{ringF}
-use Rattle.exact.proofs.Fraction.{≤F-refl, ≤F-trans, <F-le, le-or-ltF, ≈F-le, ≈F-ge, ≤F-antisym, add-monoF, neg-monoF, mul-monoF, sub-is-add, product-low, product-high, nonneg-num, num-nonneg, over-mono, over-neg}
+use Rattle.exact.proofs.Fraction.{≤F-refl, ≤F-trans, <F-le, <F-irrefl, le-or-ltF, ≈F-sym, ≈F-trans, ≈F-le, ≈F-ge, ≤F-antisym, add-monoF, neg-monoF}
+use Rattle.exact.proofs.Fraction.{mul-monoF, sub-is-add, product-low, product-high, nonneg-num, num-nonneg, over-mono, over-neg}
 
 -- ---- sizes
 -- what bounds a size is not negative
@@ -72,6 +73,35 @@ below-yes t = <F-le (record { lt = ltZ-yes t })
 
 below-no : {a b : Fraction} → T (not (belowF a b)) → b ≤F a
 below-no t = record { le = ltZ-no t }
+
+-- whether two are equal
+not-below : {a b : Fraction} → b ≤F a → T (not (belowF a b))
+not-below {a} {b} h = not-T (belowF a b) (λ t. <F-irrefl (record { lt = ltZ-yes t }) h)
+
+pub equal-yes : {a b : Fraction} → T (equalF a b) → a ≈F b
+equal-yes {a} {b} t = let (h, k) = both (not (belowF a b)) (not (belowF b a)) t in ≤F-antisym (below-no k) (below-no h)
+  where
+    both : (x y : Bool) → T (x && y) → T x × T y
+    both true y t = (tt, t)
+    both false y t = absurd t
+
+pub equal-of : {a b : Fraction} → a ≈F b → T (equalF a b)
+equal-of {a} {b} e = both (not (belowF a b)) (not (belowF b a)) (not-below (≈F-ge e)) (not-below (≈F-le e))
+  where
+    both : (x y : Bool) → T x → T y → T (x && y)
+    both true y s t = t
+    both false y s t = s
+
+pub equal-same : {a b c d : Fraction} → a ≈F c → b ≈F d → equalF a b ≡ equalF c d
+equal-same {a} {b} {c} {d} e f = tests (equalF a b) (equalF c d)
+    (λ t. equal-of (≈F-trans (≈F-sym e) (≈F-trans (equal-yes {a = a} {b = b} t) f)))
+    (λ t. equal-of (≈F-trans e (≈F-trans (equal-yes {a = c} {b = d} t) (≈F-sym f))))
+  where
+    tests : (x y : Bool) → (T x → T y) → (T y → T x) → x ≡ y
+    tests true true g h = refl
+    tests true false g h = absurd (g tt)
+    tests false true g h = absurd (h tt)
+    tests false false g h = refl
 
 module _ (a b : Fraction) where
   -- it is one of the two

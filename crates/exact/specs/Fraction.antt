@@ -1,7 +1,7 @@
 -- Fractions of whole numbers, never reduced: the one notion of fraction in this repository.
 -- Order and equality are by cross multiplication. Definitions only; assumes nothing.
 use mathlib.Core.Path.{_≡_}
-use mathlib.Core.Bool.{Bool, cond}
+use mathlib.Core.Bool.{Bool, cond, not, _&&_}
 use Prim.Native.Nat.{ℕ, zero, suc, _*_, _<_}
 use native.Mathlib.Nat.{mul-pos, zero-lt-suc}
 use lib.Dec.{lit<}
@@ -71,6 +71,10 @@ pub record AbsF (x a : Fraction) : Type 0 where
 -- whether a is below b
 abbrev pub belowF : Fraction → Fraction → Bool
 belowF a b = ltZ (a .num *ℤ denZ b) (b .num *ℤ denZ a)
+
+-- whether they are equal
+abbrev pub equalF : Fraction → Fraction → Bool
+equalF a b = not (belowF a b) && not (belowF b a)
 
 -- the lesser and the greater of two
 unfoldable pub minF : Fraction → Fraction → Fraction

@@ -1,23 +1,32 @@
 -- "ZEROS OF EITHER SIGN ARE ALIKE IN ALL COMPARISONS", and so in all results: two doubles are alike where each is at most the other, that is,
--- where they are the same double or two zeros. Of intervals with finite ends that are alike, every operation that steps gives the same bits.
--- Assumes nothing.
-use mathlib.Core.Path.{_≡_, refl, ap}
-use mathlib.Core.Bool.{true, false}
-use lib.Dec.{T}
+-- where they are the same double or two zeros. Of intervals whose ends are alike a product, which steps, gives the same bits, and a difference
+-- ends that are alike again. Assumes nothing.
+use mathlib.Core.Path.{_≡_, refl, ap, subst}
+use Prim.Native.Nat.{ℕ, suc, _≤_}
+use native.Mathlib.Omega.{arith}
+use mathlib.Core.Bool.{Bool, true, false, _&&_}
+use lib.Dec.{T, leb, leb→le}
 use lib.Ieee.{Float, nan, inf, fin, binary64, neg, sub, mul, lt, eq, le, fits}
 use lib.Ieee.Fits.{neg-fits}
 use lib.Ieee.Scale.{finite}
-use Rattle.exact.specs.Fraction.{Fraction, _≈F_}
+use Rattle.exact.specs.Fraction.{Fraction, _-F_, _≈F_}
 use Rattle.exact.proofs.Fraction.{≤F-antisym, ≈F-refl, ≈F-le, ≈F-ge, sub-congF, mul-congF}
+use Rattle.exact.proofs.FractionSize.{equal-same}
 use Rattle.interval.specs.declared.Interval.{Interval}
 use Rattle.interval.specs.Step.{nextUp, nextDown}
-use Rattle.interval.specs.Interval.{least, greatest, outward, difference, product}
-use Rattle.interval.specs.Encloses.{value}
+use Rattle.interval.specs.Interval.{Arithmetic, Wide, Narrow, least, greatest, outward, exactDifference, stepDown, stepUp, difference, product}
+use Rattle.interval.specs.Encloses.{value, Small}
+use Rattle.interval.proofs.Small.{small-finite, small-more}
+use Rattle.interval.proofs.SmallRounding.{up-small, down-small}
 use Rattle.interval.proofs.Rounding.{Rounds, rounds-fits}
-use Rattle.interval.proofs.Operations.{sub-rounds, mul-rounds}
+use Rattle.interval.proofs.Operations.{mul-rounds}
+use Rattle.interval.proofs.Candidates.{Candidate, difference-candidate}
 use Rattle.interval.proofs.Compare.{equal-tests, le-value, value-le, le-real, least-one, greatest-one}
 use Rattle.interval.proofs.Rank.{up-same}
 use Rattle.interval.proofs.Order.{le-trans, neg-le, least-le-left, least-le-right, le-greatest-left, le-greatest-right, rounds-le}
+
+more : (k : ℕ) → k ≤ suc k
+more k = omega arith
 
 pub record Alike (x y : Float) : Type 0 where
   pub most : T (le x y)
@@ -103,48 +112,120 @@ greater {a} {b} {c} {d} p q = record {
   alike = record { most = greatest-mono a b c d (p .alike .most) (q .alike .most); least = greatest-mono c d a b (p .alike .least) (q .alike .least) };
 }
 
--- ---- finite doubles of one value, and intervals of such ends
-pub record Same (x y : Float) : Type 0 where
-  pub left : T (finite x)
-  pub right : T (finite y)
+-- ---- doubles of one value and at most 2 ^ k in size, and intervals of such ends
+pub record Same (k : ℕ) (x y : Float) : Type 0 where
+  pub left : Small k x
+  pub right : Small k y
   pub value : value x ≈F value y
 
-pub same-alike : {x y : Float} → Same x y → Alike x y
-same-alike {x} {y} h = record { most = value-le x y (h .left) (h .right) (≈F-le (h .value)); least = value-le y x (h .right) (h .left) (≈F-ge (h .value)) }
+pub same-alike : {k : ℕ} {x y : Float} → Same k x y → Alike x y
+same-alike {k} {x} {y} h =
+    let f = small-finite k x (h .left) in
+    let g = small-finite k y (h .right) in
+    record { most = value-le x y f g (≈F-le (h .value)); least = value-le y x g f (≈F-ge (h .value)) }
 
-pub record SameEnds (X Y : Interval) : Type 0 where
-  pub lo : Same (X .lo) (Y .lo)
-  pub hi : Same (X .hi) (Y .hi)
+pub record SameEnds (k : ℕ) (X Y : Interval) : Type 0 where
+  pub lo : Same k (X .lo) (Y .lo)
+  pub hi : Same k (X .hi) (Y .hi)
 
-pub same-ends : (X : Interval) → T (finite (X .lo)) → T (finite (X .hi)) → SameEnds X X
-same-ends X f g = record {
-  lo = record { left = f; right = f; value = ≈F-refl (value (X .lo)) };
-  hi = record { left = g; right = g; value = ≈F-refl (value (X .hi)) };
-}
+pub same : {k : ℕ} (x : Float) → Small k x → Same k x x
+same x s = record { left = s; right = s; value = ≈F-refl (value x) }
 
-module _ {X Y U W : Interval} (h : SameEnds X U) (k : SameEnds Y W) where
-  pub sub-same : difference X Y ≡ difference U W
-  unfolding difference
-  sub-same = outward-alike (less (h .lo) (k .hi)) (less (h .hi) (k .lo))
+pub same-ends : {k : ℕ} (X : Interval) → Small k (X .lo) → Small k (X .hi) → SameEnds k X X
+same-ends X f g = record { lo = same (X .lo) f; hi = same (X .hi) g }
+
+finite-same : (k : ℕ) (x y : Float) → Small k x → Small k y → finite x ≡ finite y
+finite-same k x y f g = equal-tests (finite x) (finite y) (λ _. small-finite k y g) (λ _. small-finite k x f)
+
+-- ---- a difference. An exact end is not stepped, and keeps the sign of its zero: the ends are the same in value
+module _ (k : ℕ) (K : suc k ≤ 1022) {x y v w : Float} (p : Same k x v) (q : Same k y w) where
+  a : Candidate (suc k) (sub binary64 x y) (value x -F value y)
+  a = difference-candidate k K x y (p .left) (q .left)
+
+  b : Candidate (suc k) (sub binary64 v w) (value v -F value w)
+  b = difference-candidate k K v w (p .right) (q .right)
+
+  exact : value x -F value y ≈F value v -F value w
+  exact = sub-congF (p .value) (q .value)
+
+  both : Candidates (sub binary64 x y) (sub binary64 v w)
+  both = candidates (a .rounds) (b .rounds) exact
+
+  values : value (sub binary64 x y) ≈F value (sub binary64 v w)
+  values =
+      let f = small-finite (suc k) (sub binary64 x y) (a .small) in
+      let g = small-finite (suc k) (sub binary64 v w) (b .small) in
+      ≤F-antisym (le-value (sub binary64 x y) (sub binary64 v w) f g (both .alike .most))
+      (le-value (sub binary64 v w) (sub binary64 x y) g f (both .alike .least))
+
+  test-same : exactDifference x y ≡ exactDifference v w
+  unfolding exactDifference
+  test-same = λ i. finite-same k x v (p .left) (p .right) i && finite-same k y w (q .left) (q .right) i
+      && (finite-same (suc k) (sub binary64 x y) (sub binary64 v w) (a .small) (b .small) i && equal-same values exact i)
+
+  unstepped : Same (suc (suc k)) (sub binary64 x y) (sub binary64 v w)
+  unstepped = record {
+    left = small-more (suc k) (suc (suc k)) (sub binary64 x y) (more (suc k)) (a .small);
+    right = small-more (suc k) (suc (suc k)) (sub binary64 v w) (more (suc k)) (b .small);
+    value = values;
+  }
+
+  low-same : (ar : Arithmetic) → Same (suc (suc k)) (stepDown ar (exactDifference x y) (sub binary64 x y))
+      (stepDown ar (exactDifference v w) (sub binary64 v w))
+  low-same ar = subst (λ (e : Bool). Same (suc (suc k)) (stepDown ar (exactDifference x y) (sub binary64 x y)) (stepDown ar e (sub binary64 v w))) test-same
+      (go ar (exactDifference x y))
     where
-      less : {x y v w : Float} → Same x v → Same y w → Candidates (sub binary64 x y) (sub binary64 v w)
-      less {x} {y} {v} {w} p q = candidates (sub-rounds x y (p .left) (q .left)) (sub-rounds v w (p .right) (q .right)) (sub-congF (p .value) (q .value))
+      stepped : Same (suc (suc k)) (nextDown (sub binary64 x y)) (nextDown (sub binary64 v w))
+      stepped = subst (λ (z : Float). Same (suc (suc k)) (nextDown (sub binary64 x y)) z)
+          (down-alike (sub binary64 x y) (sub binary64 v w) (both .left) (both .right) (both .alike))
+          (same (nextDown (sub binary64 x y)) (down-small (suc k) (sub binary64 x y) K (a .fits) (a .small)))
 
+      go : (ar : Arithmetic) (e : Bool) → Same (suc (suc k)) (stepDown ar e (sub binary64 x y)) (stepDown ar e (sub binary64 v w))
+      go Wide e = stepped
+      go Narrow true = unstepped
+      go Narrow false = stepped
+
+  high-same : (ar : Arithmetic) → Same (suc (suc k)) (stepUp ar (exactDifference x y) (sub binary64 x y)) (stepUp ar (exactDifference v w) (sub binary64 v w))
+  high-same ar = subst (λ (e : Bool). Same (suc (suc k)) (stepUp ar (exactDifference x y) (sub binary64 x y)) (stepUp ar e (sub binary64 v w))) test-same
+      (go ar (exactDifference x y))
+    where
+      stepped : Same (suc (suc k)) (nextUp (sub binary64 x y)) (nextUp (sub binary64 v w))
+      stepped = subst (λ (z : Float). Same (suc (suc k)) (nextUp (sub binary64 x y)) z)
+          (up-alike (sub binary64 x y) (sub binary64 v w) (both .left) (both .right) (both .alike))
+          (same (nextUp (sub binary64 x y)) (up-small (suc k) (sub binary64 x y) K (a .fits) (a .small)))
+
+      go : (ar : Arithmetic) (e : Bool) → Same (suc (suc k)) (stepUp ar e (sub binary64 x y)) (stepUp ar e (sub binary64 v w))
+      go Wide e = stepped
+      go Narrow true = unstepped
+      go Narrow false = stepped
+
+pub sub-same : (ar : Arithmetic) {k : ℕ} {X Y U W : Interval} → T (leb (suc k) 1022) → SameEnds k X U → SameEnds k Y W
+    → SameEnds (suc (suc k)) (difference ar X Y) (difference ar U W)
+unfolding difference
+sub-same ar {k} t h g =
+    let K = leb→le (suc k) 1022 t in
+    record { lo = low-same k K (h .lo) (g .hi) ar; hi = high-same k K (h .hi) (g .lo) ar }
+
+-- ---- a product steps
+module _ {j k : ℕ} {X Y U W : Interval} (h : SameEnds j X U) (g : SameEnds k Y W) where
   pub mul-same : product X Y ≡ product U W
   unfolding product
   mul-same = outward-alike (lesser (lesser low across) (lesser back high)) (greater (greater low across) (greater back high))
     where
-      times : {x y v w : Float} → Same x v → Same y w → Candidates (mul binary64 x y) (mul binary64 v w)
-      times {x} {y} {v} {w} p q = candidates (mul-rounds x y (p .left) (q .left)) (mul-rounds v w (p .right) (q .right)) (mul-congF (p .value) (q .value))
+      times : {x y v w : Float} → Same j x v → Same k y w → Candidates (mul binary64 x y) (mul binary64 v w)
+      times {x} {y} {v} {w} p q =
+          candidates (mul-rounds x y (small-finite j x (p .left)) (small-finite k y (q .left)))
+          (mul-rounds v w (small-finite j v (p .right)) (small-finite k w (q .right)))
+          (mul-congF (p .value) (q .value))
 
       low : Candidates (mul binary64 (X .lo) (Y .lo)) (mul binary64 (U .lo) (W .lo))
-      low = times (h .lo) (k .lo)
+      low = times (h .lo) (g .lo)
 
       across : Candidates (mul binary64 (X .lo) (Y .hi)) (mul binary64 (U .lo) (W .hi))
-      across = times (h .lo) (k .hi)
+      across = times (h .lo) (g .hi)
 
       back : Candidates (mul binary64 (X .hi) (Y .lo)) (mul binary64 (U .hi) (W .lo))
-      back = times (h .hi) (k .lo)
+      back = times (h .hi) (g .lo)
 
       high : Candidates (mul binary64 (X .hi) (Y .hi)) (mul binary64 (U .hi) (W .hi))
-      high = times (h .hi) (k .hi)
+      high = times (h .hi) (g .hi)

@@ -80,7 +80,7 @@ pub nearest-exact : (j : ℕ) (z : ℤ) → T (leb j 1074) → natAbs z < 2 ^ 53
 nearest-exact j z t h = exact-rounds j z t h (≈F-refl (binary z j)) (nearest-rounds z (2 ^ j) (pow-pos j))
 
 -- ---- `mid`
-add-binary : (z w : ℤ) (j : ℕ) → binary z j +F binary w j ≈F binary (z +ℤ w) j
+pub add-binary : (z w : ℤ) (j : ℕ) → binary z j +F binary w j ≈F binary (z +ℤ w) j
 add-binary z w j = ≈F-trans (add-ratio (binary z j) (binary w j) (mul-pos (pow-pos j) (pow-pos j))) (record { eq = ring 3 (λ z w p. (z ⊗ p ⊕ w ⊗ p) ⊗ p) (λ z w p. (z ⊕ w) ⊗ (p ⊗ p)) tt (z ∷ w ∷ pos (2 ^ j) ∷ []) })
 
 half-binary : (z : ℤ) (j : ℕ) → binary z j *F binary (pos 1) 1 ≈F binary z (suc j)

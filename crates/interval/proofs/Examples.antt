@@ -3,13 +3,13 @@
 use mathlib.Core.Path.{_≡_, refl}
 use mathlib.Core.Bool.{true, false}
 use lib.IntN.{pos, negsuc}
-use lib.Ieee.{nan, inf, ofBits, toBits, mul, add, div, round, lt, neg, isNan}
-use Rattle.exact.specs.Fraction.{Fraction, ratio, _-F_, _*F_, _≈F_}
+use lib.Ieee.{Float, nan, inf, ofBits, toBits, mul, add, sub, div, round, lt, neg, isNan}
+use Rattle.exact.specs.Fraction.{Fraction, ratio, _+F_, _-F_, _*F_, _≈F_}
 use lib.Dec.{T, lit<, lit≤}
 use lib.Ieee.Scale.{finite}
 use Rattle.interval.specs.declared.Interval.{Interval}
 use Rattle.interval.specs.Step.{b64, nextUp, nextDown}
-use Rattle.interval.specs.Interval.{point, twoPi, sum, difference, product, quotient, square, mid}
+use Rattle.interval.specs.Interval.{Arithmetic, Wide, Narrow, point, twoPi, exactSum, exactDifference, sum, difference, product, quotient, square, mid}
 use Rattle.interval.specs.Nearest.{nearest, fromRational}
 use Rattle.interval.specs.Floor.{floor, modFour}
 use Rattle.interval.specs.Encloses.{value, _∈_}
@@ -17,6 +17,12 @@ use Rattle.interval.proofs.Membership.{In}
 use Rattle.interval.proofs.Encloses.{sub-encloses, mul-encloses, fraction-encloses}
 use Rattle.interval.proofs.Exact.{binary, nearest-exact, mid-exact}
 use Rattle.interval.proofs.Quotient.{div-encloses, fraction-apart}
+
+abbrev one : Float
+one = b64 0x3ff0_0000_0000_0000
+
+abbrev two : Float
+two = b64 0x4000_0000_0000_0000
 
 -- ---- the steps at the ends of the format
 after-one : nextUp (b64 0x3ff0_0000_0000_0000) ≡ b64 0x3ff0_0000_0000_0001
@@ -72,10 +78,40 @@ two-pi : ratio (pos 6283185307179586476925) 1000000000000000000000 (lit< tt) ∈
 unfolding nextUp nextDown sum product quotient square fromRational ofBits toBits isNan neg add mul div lt round
 two-pi = record { above = record { le = record { le = tt } }; below = record { le = record { le = tt } } }
 
--- ---- an exact sum is stepped too: 1 + 2
-one-and-two : sum (point (b64 0x3ff0_0000_0000_0000)) (point (b64 0x4000_0000_0000_0000)) ≡ record { lo = b64 0x4007_ffff_ffff_ffff; hi = b64 0x4008_0000_0000_0001 }
-unfolding nextUp nextDown sum product quotient square fromRational ofBits toBits isNan neg add mul div lt round
+-- ---- sums under either arithmetic
+-- 1 + 2 is exact
+one-and-two : sum Narrow (point one) (point two) ≡ record { lo = b64 0x4008_0000_0000_0000; hi = b64 0x4008_0000_0000_0000 }
+unfolding nextUp nextDown sum difference exactSum exactDifference _+F_ _-F_ ofBits toBits isNan neg add sub mul lt round
 one-and-two = refl
+
+one-and-two-wide : sum Wide (point one) (point two) ≡ record { lo = b64 0x4007_ffff_ffff_ffff; hi = b64 0x4008_0000_0000_0001 }
+unfolding nextUp nextDown sum difference exactSum exactDifference _+F_ _-F_ ofBits toBits isNan neg add sub mul lt round
+one-and-two-wide = refl
+
+-- the sum of the doubles 0.1 and 0.2 is rounded up, and steps up all the same
+tenths : (ar : Arithmetic) → sum ar (point (b64 0x3fb9_9999_9999_999a))
+    (point (b64 0x3fc9_9999_9999_999a)) ≡ record { lo = b64 0x3fd3_3333_3333_3333; hi = b64 0x3fd3_3333_3333_3335 }
+unfolding nextUp nextDown sum difference exactSum exactDifference _+F_ _-F_ ofBits toBits isNan neg add sub mul lt round
+tenths Wide = refl
+tenths Narrow = refl
+
+-- 0.1 − 0.1 is zero
+nothing-left : difference Narrow (point (b64 0x3fb9_9999_9999_999a)) (point (b64 0x3fb9_9999_9999_999a)) ≡ point (b64 0)
+unfolding nextUp nextDown sum difference exactSum exactDifference _+F_ _-F_ ofBits toBits isNan neg add sub mul lt round
+nothing-left = refl
+
+-- each end by itself: 1 + 2 and 0.1 + 0.2
+one-end : sum Narrow (record { lo = b64 0x3fb9_9999_9999_999a; hi = one })
+    (record { lo = b64 0x3fc9_9999_9999_999a; hi = two }) ≡ record { lo = b64 0x3fd3_3333_3333_3333; hi = b64 0x4008_0000_0000_0000 }
+unfolding nextUp nextDown sum difference exactSum exactDifference _+F_ _-F_ ofBits toBits isNan neg add sub mul lt round
+one-end = refl
+
+-- twice the largest double is beyond the format: it is no exact end, and steps
+overflow : (ar : Arithmetic) → sum ar (point (b64 0x7fef_ffff_ffff_ffff))
+    (point (b64 0x7fef_ffff_ffff_ffff)) ≡ record { lo = b64 0x7fef_ffff_ffff_ffff; hi = inf false }
+unfolding nextUp nextDown sum difference exactSum exactDifference _+F_ _-F_ ofBits toBits isNan neg add sub mul lt round
+overflow Wide = refl
+overflow Narrow = refl
 
 -- a fraction that is a double is stepped too: 1 / 2
 one-half : fromRational (pos 1) 2 ≡ record { lo = b64 0x3fdf_ffff_ffff_ffff; hi = b64 0x3fe0_0000_0000_0001 }
@@ -129,15 +165,19 @@ tenth-in : In 1 tenth (fromRational (pos 1) 10)
 tenth-in = fraction-encloses 0 tenth tt (lit≤ tt)
 
 -- 1/10 × 1/10 − 1/10
-product-less : In 5 (tenth *F tenth -F tenth) (difference (product (fromRational (pos 1) 10) (fromRational (pos 1) 10)) (fromRational (pos 1) 10))
-product-less = sub-encloses tt (mul-encloses tt tenth-in tenth-in) tenth-in
+product-less : (ar : Arithmetic)
+    → In 5 (tenth *F tenth -F tenth) (difference ar (product (fromRational (pos 1) 10) (fromRational (pos 1) 10)) (fromRational (pos 1) 10))
+product-less ar = sub-encloses ar tt (mul-encloses tt tenth-in tenth-in) tenth-in
 
 -- 1/10 over 3 / 2 ^ 20
 third-of-tenth : In 23 (tenth *F ratio (pos 1048576) 3 (lit< tt)) (quotient (fromRational (pos 1) 10) (fromRational (pos 3) 1048576))
-third-of-tenth = div-encloses 21 (lit< tt) tt (fraction-apart 19 0 (ratio (pos 3) 1048576 (lit< tt)) tt tt (lit≤ tt) (record { le = record { le = tt } })) tenth-in (fraction-encloses 0 (ratio (pos 3) 1048576 (lit< tt)) tt (lit≤ tt))
+third-of-tenth = div-encloses 21 (lit< tt) tt
+    (fraction-apart 19 0 (ratio (pos 3) 1048576 (lit< tt)) tt tt (lit≤ tt) (record { le = record { le = tt } })) tenth-in
+    (fraction-encloses 0 (ratio (pos 3) 1048576 (lit< tt)) tt (lit≤ tt))
 
 -- the middle of the ticks -3 and 5 is the fraction 2 / 2048: nothing is rounded
-middle : T (finite (mid (record { lo = nearest (negsuc 2) 1024; hi = nearest (pos 5) 1024 }))) × (value (mid (record { lo = nearest (negsuc 2) 1024; hi = nearest (pos 5) 1024 })) ≈F binary (pos 2) 11)
+middle : T (finite (mid (record { lo = nearest (negsuc 2) 1024; hi = nearest (pos 5) 1024 }))) ×
+    (value (mid (record { lo = nearest (negsuc 2) 1024; hi = nearest (pos 5) 1024 })) ≈F binary (pos 2) 11)
 middle =
     let (f, e) = nearest-exact 10 (negsuc 2) tt (lit< tt) in
     let (g, v) = nearest-exact 10 (pos 5) tt (lit< tt) in

@@ -4,6 +4,12 @@ pub mod Membership
 pub mod Encloses
 pub mod Quotient
 pub mod Bounds
+-- what lies in what: the sums of either arithmetic, and what is made of them
+pub mod Narrower
+pub mod NarrowerProducts
+pub mod NarrowerBounds
+-- how far out an end can be, in units of a grid
+pub mod Grid
 -- doubles as fractions: their sizes, their tests, where no rounding takes place, the floor, the series
 pub mod Small
 pub mod DoubleSizes
@@ -25,6 +31,10 @@ mod SmallRounding
 mod StepLaws
 mod Operations
 mod Candidates
+-- whether a sum is exact
+mod Multiples
+mod QuantaSums
+mod ExactTest
 -- what the proofs of the code cite
 mod SignTests
 mod StepCode

@@ -16,7 +16,8 @@ use Rattle.exact.proofs.Choice.{choose}
 use Rattle.interval.specs.declared.Interval.{Interval}
 use Rattle.interval.specs.Step.{b64, nextUp, nextDown}
 use Rattle.interval.specs.Interval.{ordered, point, least, greatest, least4, greatest4, outward, around}
-use Rattle.interval.specs.Interval.{sum, difference, product, quotient, negation, square, imin, imax, clamp01}
+use Rattle.interval.specs.Interval.{Arithmetic, Wide, Narrow, exactSum, exactDifference, stepDown, stepUp, sum, difference, product, quotient}
+use Rattle.interval.specs.Interval.{negation, square, imin, imax, clamp01}
 use Rattle.interval.specs.Nearest.{nearest, fromRational}
 use Rattle.interval.specs.Encloses.{value}
 use Rattle.interval.proofs.Pattern.{finite-real}
@@ -39,6 +40,21 @@ rounded r = record { fits = rounds-fits r; real = rounds-real r }
 outward-ordered : (a b : Float) → Real a → Real b → T (le a b) → T (ordered (outward a b))
 outward-ordered a b p q h =
     le-trans (nextDown a) b (nextUp b) (le-trans (nextDown a) a b (down-le a (p .fits) (p .real)) h) (le-up b (q .fits) (q .real))
+
+-- under either arithmetic a low end is no higher than what was rounded, and a high end no lower
+step-below : (ar : Arithmetic) (e : Bool) (x : Float) → Real x → T (le (stepDown ar e x) x)
+step-below Wide e x r = down-le x (r .fits) (r .real)
+step-below Narrow true x r = le-refl x (r .real)
+step-below Narrow false x r = down-le x (r .fits) (r .real)
+
+step-above : (ar : Arithmetic) (e : Bool) (x : Float) → Real x → T (le x (stepUp ar e x))
+step-above Wide e x r = le-up x (r .fits) (r .real)
+step-above Narrow true x r = le-refl x (r .real)
+step-above Narrow false x r = le-up x (r .fits) (r .real)
+
+ends-ordered : (ar : Arithmetic) (c e : Bool) (a b : Float) → Real a → Real b → T (le a b) → T (le (stepDown ar c a) (stepUp ar e b))
+ends-ordered ar c e a b p q h =
+    le-trans (stepDown ar c a) b (stepUp ar e b) (le-trans (stepDown ar c a) a b (step-below ar c a p) h) (step-above ar e b q)
 
 -- the least of four is at most the first of them, and that at most the greatest
 around-ordered : (a b c d : Float) → Real a → Real b → Real c → Real d → T (ordered (around a b c d))
@@ -93,21 +109,21 @@ over (fin s m e) (fin t n d) f g h = record {
 
 module _ (X Y : Interval) (f : Finite X) (g : Finite Y) where
   module _ (h : T (ordered X)) (k : T (ordered Y)) where
-    pub add-ordered : T (ordered (sum X Y))
+    pub add-ordered : (ar : Arithmetic) → T (ordered (sum ar X Y))
     unfolding sum
-    add-ordered =
+    add-ordered ar =
         let a = add-rounds (X .lo) (Y .lo) (f .lo) (g .lo) in
         let b = add-rounds (X .hi) (Y .hi) (f .hi) (g .hi) in
-        outward-ordered (add binary64 (X .lo) (Y .lo)) (add binary64 (X .hi) (Y .hi))
+        ends-ordered ar (exactSum (X .lo) (Y .lo)) (exactSum (X .hi) (Y .hi)) (add binary64 (X .lo) (Y .lo)) (add binary64 (X .hi) (Y .hi))
         (rounded a) (rounded b)
         (rounds-le a b (add-monoF (in-values X f h) (in-values Y g k)))
 
-    pub sub-ordered : T (ordered (difference X Y))
+    pub sub-ordered : (ar : Arithmetic) → T (ordered (difference ar X Y))
     unfolding difference
-    sub-ordered =
+    sub-ordered ar =
         let a = sub-rounds (X .lo) (Y .hi) (f .lo) (g .hi) in
         let b = sub-rounds (X .hi) (Y .lo) (f .hi) (g .lo) in
-        outward-ordered (sub binary64 (X .lo) (Y .hi)) (sub binary64 (X .hi) (Y .lo))
+        ends-ordered ar (exactDifference (X .lo) (Y .hi)) (exactDifference (X .hi) (Y .lo)) (sub binary64 (X .lo) (Y .hi)) (sub binary64 (X .hi) (Y .lo))
         (rounded a) (rounded b)
         (rounds-le a b (sub-monoF (in-values X f h) (in-values Y g k)))
 

@@ -10,14 +10,15 @@ use lib.Dec.{T, ltb, lt→ltb, lit<}
 use lib.Pow.{pow-pos}
 use lib.IntN.{ℤ}
 use lib.Ieee.{Float, nan, inf, fin, binary64, lt, le, eq, fits, isNan, nanBits, toBits, ofBits, up, down}
-use lib.Ieee.Bits.{is-true}
+use lib.Ieee.Bits.{is-true, ofBits-toBits}
 use lib.Ieee.Fits.{down-pos}
 use lib.Ieee.Order.{le-of-values}
 use lib.Ieee.Scale.{finite}
 use Rattle.interval.specs.declared.Interval.{Interval}
 use Rattle.interval.specs.Step.{b64, nextUp, nextDown}
 use Rattle.interval.specs.Interval.{outward}
-use Rattle.interval.proofs.Pattern.{quantum, Quanta, val, val-mono, bits-value, withSign, Pattern, has-pattern, no-nan-bits, below-infinity}
+use Rattle.interval.proofs.Pattern.{quantum, Quanta, val, val-mono, bits-value, withSign, Pattern, has-pattern, bits-lt, bits-cap, no-nan-bits}
+use Rattle.interval.proofs.Pattern.{below-infinity}
 use Rattle.interval.proofs.NextBits.{up-away, up-toward, down-away, down-toward}
 use Rattle.interval.proofs.SignTests.{largest, lowest, above-zero, below-zero, up-to-largest, down-to-lowest, above-room, below-room}
 
@@ -115,7 +116,29 @@ module _ (x : Float) (f : fits binary64 x ≡ true) where
       let (s, b, p, l, z) = up-to-largest x g (no (lt x (b64 0)) h) (yes (le x largest) k) in
       moved (p .real) (turn s false (bitsOf x) b l (p .bits)) (up-away x s b (p .real) (p .bits) l z)
 
+  -- an exact end stays where it is: its pattern moves by nothing
+  pub falls : {y : Float} (e : Bool) (n : ℕ) → n ≡ cond e 0 1 → Moved x y (bitsOf x - 1) (1 ≤ bitsOf x) → Moved x (cond e x y) (bitsOf x - n) (n ≤ bitsOf x)
+  falls true n p h = moved (h .real) (none (bitsOf x) n p (bits-cap x g (h .real))) (sym (ofBits-toBits binary64 x g))
+    where
+      none : (b n : ℕ) → n ≡ 0 → b % 0x8000_0000_0000_0000 ≤ 0x7ff0_0000_0000_0000
+          → (n ≤ b) × ((b - n) % 0x8000_0000_0000_0000 ≤ 0x7ff0_0000_0000_0000) × (b ≡ b - n)
+      none b n p h = (omega arith, omega arith, omega arith)
+  falls {y} false n p h = subst (λ (k : ℕ). Moved x y (bitsOf x - k) (k ≤ bitsOf x)) (sym p) h
+
+  pub rises : {y : Float} (e : Bool) (n : ℕ) → n ≡ cond e 0 1 → Moved x y (bitsOf x + 1) (bitsOf x + 1 < 0x1_0000_0000_0000_0000)
+      → Moved x (cond e x y) (bitsOf x + n) (bitsOf x + n < 0x1_0000_0000_0000_0000)
+  rises true n p h = moved (h .real) (none (bitsOf x) n p (bits-lt x g) (bits-cap x g (h .real))) (sym (ofBits-toBits binary64 x g))
+    where
+      none : (b n : ℕ) → n ≡ 0 → b < 0x1_0000_0000_0000_0000 → b % 0x8000_0000_0000_0000 ≤ 0x7ff0_0000_0000_0000
+          → (b + n < 0x1_0000_0000_0000_0000) × ((b + n) % 0x8000_0000_0000_0000 ≤ 0x7ff0_0000_0000_0000) × (b ≡ b + n)
+      none b n p l h = (omega arith, omega arith, omega arith)
+  rises {y} false n p h = subst (λ (k : ℕ). Moved x y (bitsOf x + k) (bitsOf x + k < 0x1_0000_0000_0000_0000)) (sym p) h
+
 -- both ends
+pub both-ends : (lo hi : Float) (m n : ℕ) {y z : Float} {R S : Type 0} → Moved lo y m R → Moved hi z n S
+    → _≡_ {A = Interval} (record { lo = ofBits binary64 m; hi = ofBits binary64 n }) (record { lo = y; hi = z })
+both-ends lo hi m n p q = rw (p .next, q .next)
+
 pub both : (lo hi : Float) (m n : ℕ) {R S : Type 0} → Moved lo (nextDown lo) m R → Moved hi (nextUp hi) n S → _≡_ {A = Interval} (record { lo = ofBits binary64 m; hi = ofBits binary64 n }) (outward lo hi)
 both lo hi m n p q = rw (p .next, q .next)
 

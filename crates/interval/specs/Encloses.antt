@@ -1,10 +1,10 @@
--- What it is for an interval to hold a fraction, and for a double to be small. A fraction's order is multiplied out over whole numbers.
--- Definitions only; assumes nothing.
+-- What it is for an interval to hold a fraction, to lie in another interval, and for a double to be small. A fraction's order is multiplied
+-- out over whole numbers. Definitions only; assumes nothing.
 use mathlib.Core.Bool.{Bool, true, false, not}
 use Prim.Native.Nat.{ℕ, _*_, _^_, _≤_}
 use lib.Dec.{T}
 use lib.IntN.{ℤ, pos, negℤ}
-use lib.Ieee.{Float, nan, inf, fin, up, down}
+use lib.Ieee.{Float, nan, inf, fin, up, down, le}
 use lib.Ieee.Fits.{down-pos}
 use Rattle.exact.specs.Fraction.{Fraction, ratio, zeroF, _≤F_}
 use Rattle.interval.specs.declared.Interval.{Interval}
@@ -36,6 +36,12 @@ infix 4 _∈_
 pub record _∈_ (q : Fraction) (i : Interval) : Type 0 where
   pub above : AtLeast q (i .lo)
   pub below : AtMost q (i .hi)
+
+infix 4 _⊑_
+-- the interval i lies in the interval j: its low end is no lower, and its high end no higher
+pub record _⊑_ (i j : Interval) : Type 0 where
+  pub lower : T (le (j .lo) (i .lo))
+  pub upper : T (le (i .hi) (j .hi))
 
 -- x is finite and at most 2 ^ k in size
 abbrev pub Small : ℕ → Float → Type 0

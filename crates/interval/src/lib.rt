@@ -1,18 +1,22 @@
-// Intervals of two doubles, stepped outward after every operation: document 01's "The interval stand-in".
+// Intervals of two doubles, document 01's "The interval stand-in": an end is stepped outward after an operation, but for the exact end of a sum
+// or a difference (document 02, L2).
 // Each function equals its definition in specs/ for all input; proofs/Encloses.antt says what the results hold.
 ghost use mathlib.Core.Path.{_≡_};
-ghost use Rattle.interval.specs.Interval.{point, twoPi, sum, difference, product, quotient, negation, square, mid, abs, magnitude, imin, imax, clamp01};
+ghost use Rattle.interval.specs.Interval.{point, twoPi, Narrow, sum, difference, product, quotient, negation, square, mid, abs, magnitude, imin};
+ghost use Rattle.interval.specs.Interval.{imax, clamp01};
 
 pub mod step; // the next double above and below
 pub mod outward; // both ends stepped at once; the lesser and the greater of two doubles
 pub mod nearest; // the nearest double of a fraction, and its interval
+pub mod sums; // whether a sum is exact, and its ends
 pub mod floor; // the floor, the quarter number and its remainder
 pub mod series; // the coefficients of sine and cosine, and their tails
 
 use outward::around;
 use outward::larger;
-use outward::outward;
 use outward::smaller;
+use sums::exact_sum;
+use sums::unless_exact;
 
 // Two doubles, low ≤ high. The type does not enforce the order: a caller's doubles are tested where they come in, and every operation keeps
 // it (proofs/Ordered.antt).
@@ -47,15 +51,19 @@ impl Interval {
     }
 
     pub fn add(self, o: Interval) -> Interval
-        ensures { λ r. ⌜ r ≡ sum self o ⌝ }
+        ensures { λ r. ⌜ r ≡ sum Narrow self o ⌝ }
     {
-        outward(self.lo + o.lo, self.hi + o.hi)
+        let exact_low = exact_sum(self.lo, o.lo);
+        let exact_high = exact_sum(self.hi, o.hi);
+        unless_exact(self.lo + o.lo, exact_low, self.hi + o.hi, exact_high)
     }
 
     pub fn sub(self, o: Interval) -> Interval
-        ensures { λ r. ⌜ r ≡ difference self o ⌝ }
+        ensures { λ r. ⌜ r ≡ difference Narrow self o ⌝ }
     {
-        outward(self.lo - o.hi, self.hi - o.lo)
+        let exact_low = exact_sum(self.lo, -o.hi);
+        let exact_high = exact_sum(self.hi, -o.lo);
+        unless_exact(self.lo - o.hi, exact_low, self.hi - o.lo, exact_high)
     }
 
     pub fn mul(self, o: Interval) -> Interval

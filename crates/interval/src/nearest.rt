@@ -4,7 +4,7 @@ ghost use Prim.Native.Nat.{_≤_, _<_, _^_};
 ghost use lib.IntN.{natAbs};
 ghost use Rattle.interval.specs.Nearest.{nearest, fromRational};
 use crate::Interval;
-use crate::outward::outward;
+use crate::sums::singly;
 
 // No caller misses the bounds: every fraction of a description within document 01's limits has parts below 2^53.
 pub fn nearest(num: i64, den: u64) -> f64
@@ -28,6 +28,6 @@ impl Interval {
         ensures { λ r. ⌜ r ≡ fromRational num den ⌝ }
     {
         let x = nearest(num, den);
-        outward(x, x)
+        singly(x, false, x, false)
     }
 }

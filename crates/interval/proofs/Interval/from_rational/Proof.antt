@@ -14,14 +14,15 @@ use Rattle.interval.proofs.Interval.from_rational.Tie as tie
 nearest-requires : tie.Need-nearest-requires
 nearest-requires c κs = (subst (λ (z : ℤ). natAbs z ≤ 2 ^ 53) (sym (toZ-ofZ w64 (c .args .num) (c .fits .num))) (c .pre .0), c .pre .1, c .pre .2)
 
-outward-requires : tie.Need-outward-requires
-outward-requires c κs = search needs
+singly-requires : tie.Need-singly-requires
+singly-requires c κs = search needs
 
 returns : tie.Need-returns
 unfolding fromRational
 returns c =
     let s = c .before .before in
-    c .outward .ensures ∙ ap (λ (x : Float). outward x x) (c .before .nearest .ensures ∙ ap (λ (z : ℤ). nearest z (s .args .den)) (toZ-ofZ w64 (s .args .num) (s .fits .num)))
+    c .singly .ensures ∙ ap (λ (x : Float). outward x x)
+    (c .before .nearest .ensures ∙ ap (λ (z : ℤ). nearest z (s .args .den)) (toZ-ofZ w64 (s .args .num) (s .fits .num)))
 
 pub from-rational-spec : {M : Type 1} → statement M
-from-rational-spec = tie.close (tie.spec nearest-requires outward-requires returns)
+from-rational-spec = tie.close (tie.spec nearest-requires singly-requires returns)

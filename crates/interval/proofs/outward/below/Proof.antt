@@ -1,35 +1,52 @@
--- Both patterns have the sign set: the low one rises and the high one falls. Assumes nothing.
+-- Both patterns have the sign set: the low one rises and the high one falls, or stays where the end is exact. Assumes nothing.
+use mathlib.Core.Path.{_≡_}
+use mathlib.Core.Bool.{cond}
+use Prim.Native.Nat.{ℕ, _+_, _-_, _≤_, _<_}
 use native.Mathlib.Omega.{arith}
-use Rattle.interval.proofs.StepCode.{down-below, up-below, DownBelow, UpBelow, both}
+use borrow.Author.Needs.{needs}
+use Rattle.interval.specs.Step.{nextUp, nextDown}
+use Rattle.interval.proofs.StepCode.{Moved, bitsOf, down-below, up-below, falls, rises, both-ends}
 use Rattle.interval.proofs.outward.below.Statement.{statement}
 use Rattle.interval.proofs.outward.below.Tie as tie
 
-abbrev low : (c : tie.Start) → DownBelow (c .args .low)
-low c = down-below (c .args .low) (c .good .0 .1) (c .pre .0) (c .pre .2)
+abbrev low : (c : tie.Start) (n : ℕ) → n ≡ cond (c .args .exact-low) 0 1
+    → Moved (c .args .low) (cond (c .args .exact-low) (c .args .low) (nextDown (c .args .low))) (bitsOf (c .args .low) + n)
+    (bitsOf (c .args .low) + n < 0x1_0000_0000_0000_0000)
+low c n e = rises (c .args .low) (c .good .0 .1) (c .args .exact-low) n e (down-below (c .args .low) (c .good .0 .1) (c .pre .0) (c .pre .2))
 
-abbrev high : (c : tie.Start) → UpBelow (c .args .high)
-high c = up-below (c .args .high) (c .good .1 .0 .1) (c .pre .1)
+abbrev high : (c : tie.Start) (n : ℕ) → n ≡ cond (c .args .exact-high) 0 1
+    → Moved (c .args .high) (cond (c .args .exact-high) (c .args .high) (nextUp (c .args .high))) (bitsOf (c .args .high) - n) (n ≤ bitsOf (c .args .high))
+high c n e = falls (c .args .high) (c .good .1 .1 .0 .1) (c .args .exact-high) n e (up-below (c .args .high) (c .good .1 .1 .0 .1) (c .pre .1))
 
-float-to-bits-t3 : tie.Need-float-to-bits-t3
-float-to-bits-t3 c = (low c) .real
+moves-requires : tie.Need-moves-requires
+moves-requires c κs = search needs
 
-add-t4 : tie.Need-add-t4
-add-t4 c = omega (arith, (low c) .fits)
+moves-requires-2 : tie.Need-moves-requires-2
+moves-requires-2 c κs = search needs
 
-float-from-bits-t5 : tie.Need-float-from-bits-t5
-float-from-bits-t5 c = (low c) .good
+float-to-bits-t7 : tie.Need-float-to-bits-t7
+float-to-bits-t7 c = (low (c .before .before) _ (c .before .moves .ensures)) .real
 
-float-to-bits-t6 : tie.Need-float-to-bits-t6
-float-to-bits-t6 c = (high c) .real
+add-t8 : tie.Need-add-t8
+add-t8 c = omega (arith, (low (c .before .before) _ (c .before .moves .ensures)) .fits)
 
-sub-t7 : tie.Need-sub-t7
-sub-t7 c = (high c) .fits
+float-from-bits-t9 : tie.Need-float-from-bits-t9
+float-from-bits-t9 c = (low (c .before .before) _ (c .before .moves .ensures)) .good
 
-float-from-bits-t8 : tie.Need-float-from-bits-t8
-float-from-bits-t8 c = (high c) .good
+float-to-bits-t10 : tie.Need-float-to-bits-t10
+float-to-bits-t10 c = (high (c .before .before) _ (c .moves2 .ensures)) .real
+
+sub-t11 : tie.Need-sub-t11
+sub-t11 c = (high (c .before .before) _ (c .moves2 .ensures)) .fits
+
+float-from-bits-t12 : tie.Need-float-from-bits-t12
+float-from-bits-t12 c = (high (c .before .before) _ (c .moves2 .ensures)) .good
 
 returns : tie.Need-returns
-returns c = both (c .args .low) (c .args .high) _ _ (low c) (high c)
+returns c = both-ends (c .before .before .args .low) (c .before .before .args .high) _ _ (low (c .before .before) _ (c .before .moves .ensures))
+    (high (c .before .before) _ (c .moves2 .ensures))
 
 pub below-spec : {M : Type 1} → statement M
-below-spec = tie.close (tie.spec float-to-bits-t3 add-t4 float-from-bits-t5 float-to-bits-t6 sub-t7 float-from-bits-t8 returns)
+below-spec =
+    tie.close
+    (tie.spec moves-requires moves-requires-2 float-to-bits-t7 add-t8 float-from-bits-t9 float-to-bits-t10 sub-t11 float-from-bits-t12 returns)
