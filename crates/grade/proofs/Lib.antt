@@ -13,6 +13,8 @@ pub mod IntervalLaws
 pub mod LinearLaws
 pub mod SlopeLaws
 pub mod AlikeLaws
+pub mod NarrowerLaws
+pub mod TickPieceLaws
 -- certification, planes
 pub mod AxisLaws
 pub mod CertifiedLaws
@@ -20,5 +22,7 @@ pub mod CertifiedLaws
 pub mod MarkedValues
 mod Sizes
 mod CornerLaws
+mod MarginLaws
+mod UnitLaws
 -- worked by computation
 mod Examples

@@ -22,7 +22,7 @@ pub dot-within : {n : ℕ} {a b : List ℤ} → Within3 n a → Within3 n b → 
 unfolding dot
 dot-within h k = within-add (within-add (within-mul (h .x) (k .x)) (within-mul (h .y) (k .y))) (within-mul (h .z) (k .z))
 
-end-within : {n : ℕ} (d : ℤ) {a b : ℤ} → Within n a → Within n b → Within n (leastEnd d a b)
+pub end-within : {n : ℕ} (d : ℤ) {a b : ℤ} → Within n a → Within n b → Within n (leastEnd d a b)
 end-within {n} d {a} {b} h k = choose (ltZ (pos 0) d) a b (Within n) (λ _. h) (λ _. k)
 
 pub least-corner-within : {n : ℕ} (d : List ℤ) {a b : List ℤ} → Within3 n a → Within3 n b → Within3 n (leastCorner d a b)

@@ -12,6 +12,7 @@ use Rattle.exact.proofs.Size.{within-sub, within-mul}
 use Rattle.exact.proofs.Ring.{lit, _⊕_, _⊖_, _⊗_}
 use Rattle.exact.proofs.FractionRing.{ringF}
 use Rattle.exact.proofs.Fraction.{≈F-refl, ≈F-sym, ≈F-trans, add-congF, mul-congF, over-is, over-zero, over-whole, whole-mul}
+use Rattle.interval.specs.Interval.{Arithmetic}
 use Rattle.interval.proofs.Membership.{In, equal-in, wider, zero-encloses}
 use Rattle.interval.proofs.Encloses.{fraction-encloses}
 use Rattle.grade.specs.declared.Grade.{Grade}
@@ -59,31 +60,6 @@ slopes-at g = three (λ i. boxAt (slopes (numbers g)) i ≡ slopeAlong (numbers 
 pub zeros-at : (i : ℕ) → i < 3 → In 0 zeroF (boxAt zeros i)
 zeros-at = three (λ i. In 0 zeroF (boxAt zeros i)) zero-encloses zero-encloses zero-encloses
 
-pub gradient-encloses : (g : Grade) → InLimits g → T (not (coincident g)) → (i : ℕ) → i < 3 → In 100 (slope g i) (boxAt (gradient (gradeIntervals (compiled g))) i)
-unfolding gradient gradeIntervals linearIntervals linearOf constantDef
-gradient-encloses g limits apart i l = by-kind g (λ G. In 100 (slope g i) (boxAt (gradient (gradeIntervals G)) i))
-    (λ k. subst (λ (q : Fraction). In 100 q (boxAt (slopes (numbers g)) i)) (sym (slope-linear g i k)) (subst (In 100 (whole numerator /F natAbs (lengthSq g))) (sym (slopes-at g i l)) (steep (length-pos g (linear-apart g k apart)))))
-    (λ u. wider 100 tt (equal-in (≈F-sym (slope-flat g i apart u)) (zeros-at i l)))
-  where
-    numerator : ℤ
-    numerator = at (direction g) i *ℤ (g .end -ℤ g .start)
-
-    small : natAbs (at (direction g) i *ℤ (g .end -ℤ g .start)) ≤ 17179869184
-    small = within-mul (within-at (minus-within (sizes g limits .to) (sizes g limits .from)) i l) (within-sub (sizes g limits .end) (sizes g limits .start)) .abs
-
-    room : (n : ℕ) → 0 < n → 17179869184 ≤ 17179869184 * n
-    room n h = omega arith
-
-    steep : 0 < natAbs (lengthSq g) → In 100 (whole (at (direction g) i *ℤ (g .end -ℤ g .start)) /F natAbs (lengthSq g)) (slopeAlong (numbers g) (at (direction g) i))
-    steep N = wider 100 tt (equal-in (≈F-sym (over-whole (at (direction g) i *ℤ (g .end -ℤ g .start)) N)) (fraction-encloses 34 (ratio (at (direction g) i *ℤ (g .end -ℤ g .start)) (natAbs (lengthSq g)) N) tt (le-trans small (room (natAbs (lengthSq g)) N))))
-
--- of one piece
-pub piece-gradient-encloses : (g : Grade) → InLimits g → T (not (coincident g)) → (p : Piece) (i : ℕ) → i < 3 → In 100 (pieceSlope g p i) (boxAt (pieceGradient (gradeIntervals (compiled g)) p) i)
-unfolding pieceGradient
-piece-gradient-encloses g limits apart Start i l = wider 100 tt (zeros-at i l)
-piece-gradient-encloses g limits apart Ramp i l = gradient-encloses g limits apart i l
-piece-gradient-encloses g limits apart End i l = wider 100 tt (zeros-at i l)
-
 -- ---- affine about any point
 module _ (g : Grade) (l : T (isLinear g)) (apart : T (not (coincident g))) where
   N : 0 < natAbs (lengthSq g)
@@ -119,3 +95,38 @@ affine-about g apart p m = by-kind g (λ _. affineLevel g p ≈F affineLevel g m
   where
     none : (i : ℕ) → T (not (isLinear g && not (eqZ (g .start) (g .end)))) → slope g i *F (p i -F m i) ≈F zeroF *F (p i -F m i)
     none i u = mul-congF (slope-flat g i apart u) (≈F-refl (p i -F m i))
+
+-- ---- the gradient's intervals, in either arithmetic
+module _ (ar : Arithmetic) where
+  pub gradient-encloses : (g : Grade) → InLimits g → T (not (coincident g)) → (i : ℕ) → i < 3
+      → In 100 (slope g i) (boxAt (gradient (gradeIntervals ar (compiled g))) i)
+  unfolding gradient gradeIntervals linearIntervals linearOf constantDef
+  gradient-encloses g limits apart i l = by-kind g (λ G. In 100 (slope g i) (boxAt (gradient (gradeIntervals ar G)) i))
+      (λ k. subst (λ (q : Fraction). In 100 q (boxAt (slopes (numbers g)) i)) (sym (slope-linear g i k))
+      (subst (In 100 (whole numerator /F natAbs (lengthSq g))) (sym (slopes-at g i l)) (steep (length-pos g (linear-apart g k apart)))))
+      (λ u. wider 100 tt (equal-in (≈F-sym (slope-flat g i apart u)) (zeros-at i l)))
+    where
+      numerator : ℤ
+      numerator = at (direction g) i *ℤ (g .end -ℤ g .start)
+
+      small : natAbs (at (direction g) i *ℤ (g .end -ℤ g .start)) ≤ 17179869184
+      small = within-mul (within-at (minus-within (sizes g limits .to) (sizes g limits .from)) i l)
+          (within-sub (sizes g limits .end) (sizes g limits .start)) .abs
+
+      room : (n : ℕ) → 0 < n → 17179869184 ≤ 17179869184 * n
+      room n h = omega arith
+
+      steep : 0 < natAbs (lengthSq g) → In 100 (whole (at (direction g) i *ℤ (g .end -ℤ g .start)) /F natAbs (lengthSq g))
+          (slopeAlong (numbers g) (at (direction g) i))
+      steep N =
+          wider 100 tt (equal-in (≈F-sym (over-whole (at (direction g) i *ℤ (g .end -ℤ g .start)) N))
+          (fraction-encloses 34 (ratio (at (direction g) i *ℤ (g .end -ℤ g .start)) (natAbs (lengthSq g)) N) tt
+          (le-trans small (room (natAbs (lengthSq g)) N))))
+
+  -- of one piece
+  pub piece-gradient-encloses : (g : Grade) → InLimits g → T (not (coincident g)) → (p : Piece) (i : ℕ) → i < 3
+      → In 100 (pieceSlope g p i) (boxAt (pieceGradient (gradeIntervals ar (compiled g)) p) i)
+  unfolding pieceGradient
+  piece-gradient-encloses g limits apart Start i l = wider 100 tt (zeros-at i l)
+  piece-gradient-encloses g limits apart Ramp i l = gradient-encloses g limits apart i l
+  piece-gradient-encloses g limits apart End i l = wider 100 tt (zeros-at i l)

@@ -1,9 +1,12 @@
--- What the proofs say of the level besides: a piece in t, the affine extension and its slope, the positions of the anchors. No promise of a
--- public call speaks by these. Definitions only; assumes nothing.
+-- What the proofs say of the level besides: a piece in t, the affine extension and its slope, the positions of the anchors, a box of whole ticks.
+-- No promise of a public call speaks by these. Definitions only; assumes nothing.
 use mathlib.Core.Bool.{cond}
-use Prim.Native.Nat.{ℕ}
-use lib.IntN.{natAbs, _-ℤ_, _*ℤ_}
+use mathlib.Core.List.{List}
+use Prim.Native.Nat.{ℕ, _<_}
+use lib.IntN.{ℤ, natAbs, _-ℤ_, _*ℤ_}
+use lib.Signed.{_≤ℤ_}
 use Rattle.exact.specs.Fraction.{Fraction, whole, zeroF, oneF, _/F_, _≤F_}
+use Rattle.interval.specs.declared.Interval.{Interval}
 use Rattle.grade.specs.declared.Grade.{Grade}
 use Rattle.grade.specs.declared.Piece.{Piece}
 use Rattle.grade.specs.declared.Piece.the-variants.{Start, Ramp, End}
@@ -12,7 +15,9 @@ use Rattle.grade.specs.declared.PieceAnswer.the-variants.{Found, None}
 use Rattle.grade.specs.declared.Axis.{Axis}
 use Rattle.grade.specs.declared.Axis.the-variants.{One}
 use Rattle.grade.specs.declared.Planes.{Planes}
+use Rattle.grade.specs.Holds.{OfTicks}
 use Rattle.grade.specs.Grade.{at, Point, isLinear, direction, lengthSq, t, rampLevel}
+use Rattle.grade.specs.Fits.{Within3}
 
 -- ---- what a piece says of t
 abbrev pub Says : PieceAnswer → Fraction → Type 0
@@ -42,3 +47,10 @@ pieceSlope g End i = zeroF
 -- "A tick is 1/1024 mm; a level count is 1/1024.": ticks in millimetres, and level counts as levels
 abbrev pub inUnits : Fraction → Fraction
 inUnits q = q /F 1024
+
+-- ---- w is the box lo..hi of whole ticks, within document 01's limits and in order
+pub record WholeTicks (lo hi : List ℤ) (w : List Interval) : Type 0 where
+  pub low : Within3 1048576 lo
+  pub high : Within3 1048576 hi
+  pub order : (i : ℕ) → i < 3 → at lo i ≤ℤ at hi i
+  pub ends : OfTicks lo hi w

@@ -1,4 +1,5 @@
--- The grade in intervals, in the original's order of operations: lengths are in millimetres and levels plain. Definitions only; assumes nothing.
+-- The grade in intervals, in the original's order of operations: lengths are in millimetres and levels plain. What adds is stated of either
+-- arithmetic. Definitions only; assumes nothing.
 use mathlib.Core.Bool.{_&&_}
 use mathlib.Core.List.{List, [], _∷_}
 use Prim.Native.Nat.{ℕ}
@@ -7,7 +8,7 @@ use lib.ListN.{getD}
 use lib.Ieee.{nan, le}
 use Rattle.interval.specs.declared.Interval.{Interval}
 use Rattle.interval.specs.Step.{b64}
-use Rattle.interval.specs.Interval.{point, sum, difference, product, quotient, clamp01}
+use Rattle.interval.specs.Interval.{Arithmetic, point, sum, difference, product, quotient, clamp01}
 use Rattle.interval.specs.Nearest.{fromRational}
 use Rattle.grade.specs.declared.Linear.{Linear}
 use Rattle.grade.specs.declared.GradeDef.{GradeDef}
@@ -35,55 +36,12 @@ slopeAlong g d = fromRational (d *ℤ (g .end -ℤ g .start)) (natAbs (g .«leng
 abbrev pub slopes : Linear → List Interval
 slopes g = slopeAlong g (at (g .direction) 0) ∷ slopeAlong g (at (g .direction) 1) ∷ slopeAlong g (at (g .direction) 2) ∷ []
 
-unfoldable pub linearIntervals : Linear → LinearIntervals
-linearIntervals g = record {
-  from = units (g .from);
-  direction = units (g .direction);
-  «length_sq» = fromRational (g .«length_sq») 1048576;
-  start = unit (g .start);
-  rise = difference (unit (g .end)) (unit (g .start));
-  slope = slopes g;
-}
-
-unfoldable pub gradeIntervals : GradeDef → GradeIntervals
-gradeIntervals g = record { kind = g .kind; linear = linearIntervals (g .linear) }
-
--- ---- t over a box
--- the entry of a box on an axis
+-- ---- the entry of a box on an axis
 abbrev pub boxAt : List Interval → ℕ → Interval
 boxAt w i = getD w i (record { lo = nan; hi = nan })
 
 abbrev pub zero : Interval
 zero = point (b64 0)
-
-unfoldable pub alongAxis : LinearIntervals → ℕ → Interval → Interval
-alongAxis g i x = product (difference x (boxAt (g .from) i)) (boxAt (g .direction) i)
-
-unfoldable pub parameterOf : LinearIntervals → Interval → Interval → Interval → Interval
-parameterOf g x y z = quotient (sum (sum (sum zero x) y) z) (g .«length_sq»)
-
--- `interval_parameter`
-unfoldable pub parameter : LinearIntervals → List Interval → Interval
-parameter g w = parameterOf g (alongAxis g 0 (boxAt w 0)) (alongAxis g 1 (boxAt w 1)) (alongAxis g 2 (boxAt w 2))
-
--- ---- the level over a box
--- start + t (end − start)
-unfoldable pub levelOf : LinearIntervals → Interval → Interval
-levelOf g t = sum (g .start) (product t (g .rise))
-
-abbrev intervalBy : LevelKind → LinearIntervals → List Interval → Interval
-intervalBy LevelKind.Constant g w = g .start
-intervalBy LevelKind.Linear g w = levelOf g (clamp01 (parameter g w))
-
-unfoldable pub interval : GradeIntervals → List Interval → Interval
-interval g w = intervalBy (g .kind) (g .linear) w
-
-abbrev affineBy : LevelKind → LinearIntervals → List Interval → Interval
-affineBy LevelKind.Constant g w = g .start
-affineBy LevelKind.Linear g w = levelOf g (parameter g w)
-
-unfoldable pub affine : GradeIntervals → List Interval → Interval
-affine g w = affineBy (g .kind) (g .linear) w
 
 -- ---- the gradient, and that of one piece
 abbrev pub zeros : List Interval
@@ -105,9 +63,56 @@ pieceGradient g End = zeros
 unfoldable pub pieceOf : Interval → PieceAnswer
 pieceOf t = chosen (le (t .hi) (b64 0)) (le (b64 0x3ff0_0000_0000_0000) (t .lo)) (le (b64 0) (t .lo) && le (t .hi) (b64 0x3ff0_0000_0000_0000))
 
-abbrev pieceBy : LevelKind → LinearIntervals → List Interval → PieceAnswer
-pieceBy LevelKind.Constant g w = Found Start
-pieceBy LevelKind.Linear g w = pieceOf (parameter g w)
+-- ---- what adds
+module _ (ar : Arithmetic) where
+  -- the constants together
+  unfoldable pub linearIntervals : Linear → LinearIntervals
+  linearIntervals g = record {
+    from = units (g .from);
+    direction = units (g .direction);
+    «length_sq» = fromRational (g .«length_sq») 1048576;
+    start = unit (g .start);
+    rise = difference ar (unit (g .end)) (unit (g .start));
+    slope = slopes g;
+  }
 
-unfoldable pub piece : GradeIntervals → List Interval → PieceAnswer
-piece g w = pieceBy (g .kind) (g .linear) w
+  unfoldable pub gradeIntervals : GradeDef → GradeIntervals
+  gradeIntervals g = record { kind = g .kind; linear = linearIntervals (g .linear) }
+
+  -- ---- t over a box
+  unfoldable pub alongAxis : LinearIntervals → ℕ → Interval → Interval
+  alongAxis g i x = product (difference ar x (boxAt (g .from) i)) (boxAt (g .direction) i)
+
+  unfoldable pub parameterOf : LinearIntervals → Interval → Interval → Interval → Interval
+  parameterOf g x y z = quotient (sum ar (sum ar (sum ar zero x) y) z) (g .«length_sq»)
+
+  -- `interval_parameter`
+  unfoldable pub parameter : LinearIntervals → List Interval → Interval
+  parameter g w = parameterOf g (alongAxis g 0 (boxAt w 0)) (alongAxis g 1 (boxAt w 1)) (alongAxis g 2 (boxAt w 2))
+
+  -- ---- the level over a box
+  -- start + t (end − start)
+  unfoldable pub levelOf : LinearIntervals → Interval → Interval
+  levelOf g t = sum ar (g .start) (product t (g .rise))
+
+  abbrev intervalBy : LevelKind → LinearIntervals → List Interval → Interval
+  intervalBy LevelKind.Constant g w = g .start
+  intervalBy LevelKind.Linear g w = levelOf g (clamp01 (parameter g w))
+
+  unfoldable pub interval : GradeIntervals → List Interval → Interval
+  interval g w = intervalBy (g .kind) (g .linear) w
+
+  abbrev affineBy : LevelKind → LinearIntervals → List Interval → Interval
+  affineBy LevelKind.Constant g w = g .start
+  affineBy LevelKind.Linear g w = levelOf g (parameter g w)
+
+  unfoldable pub affine : GradeIntervals → List Interval → Interval
+  affine g w = affineBy (g .kind) (g .linear) w
+
+  -- ---- the piece
+  abbrev pieceBy : LevelKind → LinearIntervals → List Interval → PieceAnswer
+  pieceBy LevelKind.Constant g w = Found Start
+  pieceBy LevelKind.Linear g w = pieceOf (parameter g w)
+
+  unfoldable pub piece : GradeIntervals → List Interval → PieceAnswer
+  piece g w = pieceBy (g .kind) (g .linear) w

@@ -4,6 +4,8 @@ pub mod Exact
 pub mod Refusals
 pub mod Certified
 pub mod Intervals
+pub mod InUse
+pub mod FunctionsInUse
 pub mod Fast
 -- what the answers say of every rational point, the public call, and document 01's marked values
 pub mod Holds

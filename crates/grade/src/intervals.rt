@@ -2,8 +2,11 @@
 ghost use mathlib.Core.Path.{_≡_};
 ghost use Prim.Native.Nat.{_<_};
 ghost use Rattle.exact.specs.Within.{Within};
+ghost use Rattle.interval.specs.Interval.{product, quotient};
+ghost use Rattle.grade.specs.InUse.{sum, difference};
 ghost use Rattle.grade.specs.Fits.{Within3, LinearFits, DefFits};
-ghost use Rattle.grade.specs.Intervals.{unit, units, slopeAlong, slopes, linearIntervals, gradeIntervals, alongAxis, parameterOf, parameter, levelOf, interval, affine, zeros, gradient, pieceGradient, pieceOf, piece};
+ghost use Rattle.grade.specs.Intervals.{unit, units, slopeAlong, slopes, zero, zeros, gradient, pieceGradient, pieceOf};
+ghost use Rattle.grade.specs.FunctionsInUse.{linearIntervals, gradeIntervals, alongAxis, parameterOf, parameter, levelOf, interval, affine, piece};
 use crate::GradeDef;
 use crate::GradeIntervals;
 use crate::LevelKind;
@@ -84,24 +87,40 @@ impl GradeDef {
     }
 }
 
+// (x − from)·direction on one axis, of its entries.
+pub fn along(x: Interval, from: Interval, direction: Interval) -> Interval
+    ensures { λ r. ⌜ r ≡ product (difference x from) direction ⌝ }
+{
+    x.sub(from).mul(direction)
+}
+
+// The shares of t added, over the squared length.
+pub fn divided(x: Interval, y: Interval, z: Interval, length: Interval) -> Interval
+    ensures { λ r. ⌜ r ≡ quotient (sum (sum (sum zero x) y) z) length ⌝ }
+{
+    Interval::point(0.0).add(x).add(y).add(z).div(length)
+}
+
+pub fn risen(start: Interval, rise: Interval, t: Interval) -> Interval
+    ensures { λ r. ⌜ r ≡ sum start (product t rise) ⌝ }
+{
+    start.add(t.mul(rise))
+}
+
+// What is worked out takes the entries that it needs: so no call copies all of a level's numbers.
 impl LinearIntervals {
-    // (x − from)·direction on one axis.
     pub fn along_axis(self, i: usize, x: Interval) -> Interval
         requires { ⌜ i < 3 ⌝ }
         ensures { λ r. ⌜ r ≡ alongAxis self i x ⌝ }
     {
-        x.sub(self.from[i]).mul(self.direction[i])
+        along(x, self.from[i], self.direction[i])
     }
 
     // t, from its share of each axis.
     pub fn parameter_of(self, x: Interval, y: Interval, z: Interval) -> Interval
         ensures { λ r. ⌜ r ≡ parameterOf self x y z ⌝ }
     {
-        Interval::point(0.0)
-            .add(x)
-            .add(y)
-            .add(z)
-            .div(self.length_sq)
+        divided(x, y, z, self.length_sq)
     }
 
     pub fn interval_parameter(self, w: [Interval; 3]) -> Interval
@@ -117,7 +136,7 @@ impl LinearIntervals {
     pub fn level_of(self, t: Interval) -> Interval
         ensures { λ r. ⌜ r ≡ levelOf self t ⌝ }
     {
-        self.start.add(t.mul(self.rise))
+        risen(self.start, self.rise, t)
     }
 }
 

@@ -4,9 +4,9 @@ use borrow.Author.Needs.{needs}
 use lib.Dec.{lit<, lit≤}
 use Rattle.exact.proofs.Size.{within-fits}
 use Rattle.exact.proofs.Signed.{heard, within-bits}
-use Rattle.interval.specs.Interval.{difference}
 use Rattle.interval.specs.Nearest.{fromRational}
 use Rattle.grade.specs.Intervals.{unit, linearIntervals}
+use Rattle.grade.specs.InUse.{difference}
 use Rattle.grade.proofs.Linear.intervals.Statement.{statement}
 use Rattle.grade.proofs.Linear.intervals.Tie as tie
 
