@@ -17,13 +17,13 @@ use Rattle.grade.specs.Grade as grade
 use Rattle.grade.specs.Grade.{at, ticks, minus, dot, Point, along, t, level}
 use Rattle.grade.specs.Exact.{linearOf, constantDef, compiled}
 use Rattle.grade.specs.Certified.{axis, distance, rise, linearCertification, certification}
-use Rattle.grade.specs.Holds.{InBox}
+use Rattle.grade.specs.Holds.{InBox, AtTick}
 use Rattle.grade.proofs.Axes.{three}
 use Rattle.gyroid.specs.declared.Description.{Description}
 use Rattle.gyroid.specs.Description.{inLimits, frameInLimits, partFrame}
 use Rattle.gyroid.specs.Refusals.{refusal}
 use Rattle.gyroid.specs.Fits.{Accepted}
-use Rattle.gyroid.specs.Admitted.{halfWidth, tickBox, AtTick, sinePolynomial, cosinePolynomial, sineTail, cosineTail, turnedBy, bracketOf, surface}
+use Rattle.gyroid.specs.Admitted.{halfWidth, tickBox, sinePolynomial, cosinePolynomial, sineTail, cosineTail, turnedBy, bracketOf, surface}
 use Rattle.gyroid.specs.Admitted.{quarter, wave, Chosen, waves, admitted}
 
 abbrev description : ℤ → Description

@@ -15,7 +15,7 @@ use Rattle.exact.proofs.Fraction.{over-is, over-mono, over-cong, over-zero, ove
 use Rattle.exact.proofs.FractionSize.{abs-add, abs-mul, abs-wider, square-nonneg}
 use Rattle.interval.specs.declared.Interval.{Interval}
 use Rattle.interval.specs.Step.{b64}
-use Rattle.interval.specs.Interval.{point}
+use Rattle.interval.specs.Interval.{Arithmetic, point}
 use Rattle.interval.specs.Encloses.{value}
 use Rattle.interval.proofs.Membership.{In, equal-in, wider, point-encloses}
 use Rattle.interval.proofs.Encloses.{add-encloses, mul-encloses, square-encloses}
@@ -31,13 +31,12 @@ use Rattle.gyroid.specs.Admitted.{halfWidth, ends, tickBox, bracketOf, s
 use Rattle.gyroid.proofs.CentreLaws.{doubled, radii-in, half-within}
 use Rattle.gyroid.proofs.JetLaws.{perMillimetre, wave-squared-in, same-wave}
 
--- ---- THE LAW of a bracket B and its interval C
-pub record Bracket (B : Fraction → Fraction → Fraction → Fraction) (C : Interval → Interval → Interval → Interval) : Type 0 where
+-- ---- THE LAW of a bracket B
+pub record Bracket (B : Fraction → Fraction → Fraction → Fraction) : Type 0 where
   pub mono : {x y z u v w : Fraction} → AbsF x u → AbsF y v → AbsF z w → B x y z ≤F B u v w
   pub cong : {x y z u v w : Fraction} → x ≈F u → y ≈F v → z ≈F w → B x y z ≈F B u v w
   pub scaled : (k x y z : Fraction) → k *F k *F B x y z ≈F B (k *F x) (k *F y) (k *F z)
   pub nonneg : (x y z : Fraction) → zeroF ≤F B x y z
-  pub encloses : {x y z : Fraction} {X Y Z : Interval} → In 12 x X → In 12 y Y → In 12 z Z → In 35 (B x y z) (C X Y Z)
 
 -- three squares
 module _ (x y z : Fraction) where
@@ -59,8 +58,7 @@ network-nonneg x y z = ≤F-trans (half-nonneg (x +F y) (y +F z) (z +F x))
     (λ x y z. x ⊗ x ⊕ y ⊗ y ⊕ z ⊗ z ⊕ x ⊗ y ⊕ y ⊗ z ⊕ z ⊗ x ⊕ (x ⊗ x ⊕ y ⊗ y ⊕ z ⊗ z ⊕ x ⊗ y ⊕ y ⊗ z ⊕ z ⊗ x)) tt (x ∷ y ∷ z ∷ []))))
     (≈F-le (doubled (bracketOf Surface.Network x y z))))
 
-network-bracket : Bracket (bracketOf Surface.Network) (bracketAt Surface.Network)
-unfolding bracketAt
+network-bracket : Bracket (bracketOf Surface.Network)
 network-bracket = record {
   mono = λ a b c. abs-add (abs-add (abs-add (abs-add (abs-add (abs-mul a a) (abs-mul b b)) (abs-mul c c)) (abs-mul a b)) (abs-mul b c)) (abs-mul c a) .high;
   cong = λ a b c. add-congF (add-congF (add-congF (add-congF (add-congF (mul-congF a a) (mul-congF b b)) (mul-congF c c)) (mul-congF a b))
@@ -68,8 +66,6 @@ network-bracket = record {
   scaled = λ k x y z. ringF 4 (λ k x y z. k ⊗ k ⊗ (x ⊗ x ⊕ y ⊗ y ⊕ z ⊗ z ⊕ x ⊗ y ⊕ y ⊗ z ⊕ z ⊗ x))
       (λ k x y z. k ⊗ x ⊗ (k ⊗ x) ⊕ k ⊗ y ⊗ (k ⊗ y) ⊕ k ⊗ z ⊗ (k ⊗ z) ⊕ k ⊗ x ⊗ (k ⊗ y) ⊕ k ⊗ y ⊗ (k ⊗ z) ⊕ k ⊗ z ⊗ (k ⊗ x)) tt (k ∷ x ∷ y ∷ z ∷ []);
   nonneg = network-nonneg;
-  encloses = λ x y z. add-encloses tt (add-encloses tt (add-encloses tt (add-encloses tt (add-encloses tt (square-encloses tt x) (square-encloses tt y))
-      (square-encloses tt z)) (mul-encloses tt x y)) (mul-encloses tt y z)) (mul-encloses tt z x);
 }
 
 -- ---- the primitive surface's
@@ -85,18 +81,15 @@ primitive-scaled k x y z = ≈F-trans (commF (k *F k) (squares x y z /F 2)) (≈
     (over-cong (lit< tt) (ringF 4 (λ k x y z. (x ⊗ x ⊕ y ⊗ y ⊕ z ⊗ z) ⊗ (k ⊗ k)) (λ k x y z. k ⊗ x ⊗ (k ⊗ x) ⊕ k ⊗ y ⊗ (k ⊗ y) ⊕ k ⊗ z ⊗ (k ⊗ z)) tt
     (k ∷ x ∷ y ∷ z ∷ []))))
 
-primitive-bracket : Bracket (bracketOf Surface.Primitive) (bracketAt Surface.Primitive)
-unfolding bracketAt
+primitive-bracket : Bracket (bracketOf Surface.Primitive)
 primitive-bracket = record {
   mono = λ a b c. over-mono (lit< tt) (abs-add (abs-add (abs-mul a a) (abs-mul b b)) (abs-mul c c) .high);
   cong = λ a b c. over-cong (lit< tt) (add-congF (add-congF (mul-congF a a) (mul-congF b b)) (mul-congF c c));
   scaled = primitive-scaled;
   nonneg = half-nonneg;
-  encloses = λ {x} {y} {z} X Y Z. equal-in (≈F-sym (over-is (squares x y z) (lit< tt)))
-      (wider 35 tt (mul-encloses tt (add-encloses tt (add-encloses tt (square-encloses tt X) (square-encloses tt Y)) (square-encloses tt Z)) half-in));
 }
 
-pub bracket-of : (f : Surface) → Bracket (bracketOf f) (bracketAt f)
+pub bracket-of : (f : Surface) → Bracket (bracketOf f)
 bracket-of Surface.Network = network-bracket
 bracket-of Surface.Primitive = primitive-bracket
 
@@ -106,44 +99,57 @@ pub record TermHolds (q : Interval) (e : Fraction) : Type 0 where
   pub holds : In 100 most q
   pub within : AbsF e most
 
-module _
-    (d : Description) (above : pos 0 <ℤ d .period) (lo hi : List ℤ) (low-in : Within3 1048576 lo) (high-in : Within3 1048576 hi)
-    (h : Chosen d lo hi) (p : Point) (inside : InBox lo hi p) where
-  abbrev f : Surface
-  f = surface d lo hi
+-- ---- in either arithmetic
+module _ (ar : Arithmetic) where
+  -- what a bracket's interval holds
+  bracket-encloses : (f : Surface) {x y z : Fraction} {X Y Z : Interval} → In 12 x X → In 12 y Y → In 12 z Z → In 35 (bracketOf f x y z) (bracketAt ar f X Y Z)
+  unfolding bracketAt
+  bracket-encloses Surface.Network x y z =
+      add-encloses ar tt (add-encloses ar tt (add-encloses ar tt (add-encloses ar tt (add-encloses ar tt (square-encloses tt x) (square-encloses tt y))
+      (square-encloses tt z)) (mul-encloses tt x y)) (mul-encloses tt y z)) (mul-encloses tt z x)
+  bracket-encloses Surface.Primitive {x} {y} {z} X Y Z =
+      equal-in (≈F-sym (over-is (squares x y z) (lit< tt)))
+      (wider 35 tt (mul-encloses tt (add-encloses ar tt (add-encloses ar tt (square-encloses tt X) (square-encloses tt Y)) (square-encloses tt Z)) half-in))
 
-  law : Bracket (bracketOf f) (bracketAt f)
-  law = bracket-of f
+  module _
+      (d : Description) (above : pos 0 <ℤ d .period) (lo hi : List ℤ) (low-in : Within3 1048576 lo) (high-in : Within3 1048576 hi)
+      (h : Chosen d lo hi) (p : Point) (inside : InBox lo hi p) where
+    abbrev f : Surface
+    f = surface d lo hi
 
-  abbrev k : Fraction
-  k = h .w *F perMillimetre d above
+    law : Bracket (bracketOf f)
+    law = bracket-of f
 
-  -- the radii as fractions, and the half-widths, in millimetres
-  abbrev r : ℕ → Fraction
-  r i = value (radius (ends lo hi i))
+    abbrev k : Fraction
+    k = h .w *F perMillimetre d above
 
-  abbrev x : ℕ → Fraction
-  x i = inUnits (halfWidth lo hi i)
+    -- the radii as fractions, and the half-widths, in millimetres
+    abbrev r : ℕ → Fraction
+    r i = value (radius ar (ends lo hi i))
 
-  at-most : (i : ℕ) → i < 3 → AbsF (x i) (r i)
-  at-most i b = half-within lo hi low-in high-in i b p inside
+    abbrev x : ℕ → Fraction
+    x i = inUnits (halfWidth lo hi i)
 
-  -- k is the same in either unit
-  millimetres : wave d lo hi (h .w) *F wave d lo hi (h .w) *F bracketOf f (halfWidth lo hi 0) (halfWidth lo hi 1) (halfWidth lo hi 2)
-      ≈F k *F k *F bracketOf f (x 0) (x 1) (x 2)
-  millimetres = ≈F-trans (law .scaled (wave d lo hi (h .w)) (halfWidth lo hi 0) (halfWidth lo hi 1) (halfWidth lo hi 2))
-      (≈F-trans (law .cong (same 0) (same 1) (same 2)) (≈F-sym (law .scaled k (x 0) (x 1) (x 2))))
-    where
-      same : (i : ℕ) → wave d lo hi (h .w) *F halfWidth lo hi i ≈F k *F x i
-      same i = ≈F-sym (same-wave d above (h .w) (halfWidth lo hi i))
+    at-most : (i : ℕ) → i < 3 → AbsF (x i) (r i)
+    at-most i b = half-within ar lo hi low-in high-in i b p inside
 
-  -- THE FACT
-  pub term-holds : TermHolds (secondOrder f (leaf d .«wave_squared») (radii (tickBox lo hi))) (h .e)
-  unfolding secondOrder
-  term-holds = record {
-    most = k *F k *F bracketOf f (r 0) (r 1) (r 2);
-    holds = wider 100 tt (mul-encloses tt (wave-squared-in d above (h .w-between))
-        (law .encloses (radii-in lo hi low-in high-in 0 (lit< tt)) (radii-in lo hi low-in high-in 1 (lit< tt)) (radii-in lo hi low-in high-in 2 (lit< tt))));
-    within = abs-wider (h .e-within) (≤F-trans (≈F-le millimetres)
-        (mul-monoF (k *F k) (nonneg-num (square-nonneg k)) (law .mono (at-most 0 (lit< tt)) (at-most 1 (lit< tt)) (at-most 2 (lit< tt)))));
-  }
+    -- k is the same in either unit
+    millimetres : wave d lo hi (h .w) *F wave d lo hi (h .w) *F bracketOf f (halfWidth lo hi 0) (halfWidth lo hi 1) (halfWidth lo hi 2)
+        ≈F k *F k *F bracketOf f (x 0) (x 1) (x 2)
+    millimetres = ≈F-trans (law .scaled (wave d lo hi (h .w)) (halfWidth lo hi 0) (halfWidth lo hi 1) (halfWidth lo hi 2))
+        (≈F-trans (law .cong (same 0) (same 1) (same 2)) (≈F-sym (law .scaled k (x 0) (x 1) (x 2))))
+      where
+        same : (i : ℕ) → wave d lo hi (h .w) *F halfWidth lo hi i ≈F k *F x i
+        same i = ≈F-sym (same-wave d above (h .w) (halfWidth lo hi i))
+
+    -- THE FACT
+    pub term-holds : TermHolds (secondOrder ar f (leaf ar d .«wave_squared») (radii ar (tickBox lo hi))) (h .e)
+    unfolding secondOrder
+    term-holds = record {
+      most = k *F k *F bracketOf f (r 0) (r 1) (r 2);
+      holds = wider 100 tt (mul-encloses tt (wave-squared-in ar d above (h .w-between))
+          (bracket-encloses f (radii-in ar lo hi low-in high-in 0 (lit< tt)) (radii-in ar lo hi low-in high-in 1 (lit< tt))
+          (radii-in ar lo hi low-in high-in 2 (lit< tt))));
+      within = abs-wider (h .e-within) (≤F-trans (≈F-le millimetres)
+          (mul-monoF (k *F k) (nonneg-num (square-nonneg k)) (law .mono (at-most 0 (lit< tt)) (at-most 1 (lit< tt)) (at-most 2 (lit< tt)))));
+    }

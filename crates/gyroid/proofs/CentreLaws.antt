@@ -13,7 +13,7 @@ use Rattle.exact.proofs.Ring.{lit, _⊕_, _⊖_, _⊗_, ⊝_}
 use Rattle.exact.proofs.FractionRing.{ringF}
 use Rattle.exact.proofs.Fraction.{≤F-refl, ≤F-trans, ≈F-refl, ≈F-sym, ≈F-trans, ≈F-le, ≈F-ge, add-monoF, sub-monoF, sub-congF, neg-congF, over-mono, over-cong, over-zero, over-add, over-sub, over-over, over-neg, over-times, over-whole, whole-add, whole-sub}
 use Rattle.exact.proofs.FractionSize.{abs-wider, abs-nonneg, abs-of-nonneg, abs-over}
-use Rattle.interval.specs.Interval.{point, difference, mid}
+use Rattle.interval.specs.Interval.{Arithmetic, point, difference, mid}
 use Rattle.interval.specs.Nearest.{nearest}
 use Rattle.interval.specs.Encloses.{value, Small}
 use Rattle.interval.proofs.Small.{small-finite}
@@ -72,22 +72,12 @@ module _ (lo hi : List ℤ) (low-in : Within3 1048576 lo) (high-in : Within3 104
   pub centre-in : In 10 (inUnits (centreAt lo hi i)) (point (mid (ends lo hi i)))
   centre-in = equal-in (≈F-trans (mid-is .1) centre-is) (point-encloses (mid (ends lo hi i)) (exact-small 10 11 (at lo i +ℤ at hi i) (mid (ends lo hi i)) (mid-is .0) (mid-is .1) (within-add low high' .abs)))
 
-  -- ---- the radius
+  -- ---- the ends
   low-end : In 10 (inUnits (whole (at lo i))) (point (nearest (at lo i) 1024))
   low-end = equal-in (≈F-trans (tick-exact low .1) (over-binary (at lo i))) (point-encloses (nearest (at lo i) 1024) (tick-small low))
 
   high-end : In 10 (inUnits (whole (at hi i))) (point (nearest (at hi i) 1024))
   high-end = equal-in (≈F-trans (tick-exact high' .1) (over-binary (at hi i))) (point-encloses (nearest (at hi i) 1024) (tick-small high'))
-
-  above : In 12 (inUnits (whole (at hi i)) -F inUnits (centreAt lo hi i)) (difference (point (nearest (at hi i) 1024)) (point (mid (ends lo hi i))))
-  above = sub-encloses tt high-end centre-in
-
-  below : In 12 (inUnits (centreAt lo hi i) -F inUnits (whole (at lo i))) (difference (point (mid (ends lo hi i))) (point (nearest (at lo i) 1024)))
-  below = sub-encloses tt centre-in low-end
-
-  pub radius-in : In 12 (value (radius (ends lo hi i))) (point (radius (ends lo hi i)))
-  unfolding radius
-  radius-in = point-encloses (radius (ends lo hi i)) (greatest-one (difference (point (ends lo hi i .hi)) (point (mid (ends lo hi i))) .hi) (difference (point (mid (ends lo hi i))) (point (ends lo hi i .lo)) .hi) (Small 12) (above .small-hi) (below .small-hi))
 
   -- hi − m is the half-width, and lo − m its negative
   centre-sum : centreAt lo hi i ≈F (whole (at lo i) +F whole (at hi i)) /F 2
@@ -100,28 +90,14 @@ module _ (lo hi : List ℤ) (low-in : Within3 1048576 lo) (high-in : Within3 104
   half-below = ≈F-trans (sub-congF (≈F-refl (whole (at lo i))) (≈F-trans centre-sum (over-cong (lit< tt) (ringF 2 (λ x y. x ⊕ y) (λ x y. y ⊕ x) tt (whole (at lo i) ∷ whole (at hi i) ∷ [])))))
       (≈F-trans (less-half (whole (at hi i)) (whole (at lo i))) (≈F-trans (over-cong (lit< tt) (≈F-trans (ringF 2 (λ x y. x ⊖ y) (λ x y. ⊝ (y ⊖ x)) tt (whole (at lo i) ∷ whole (at hi i) ∷ [])) (neg-congF (whole-sub (at hi i) (at lo i))))) (≈F-sym (over-neg (whole (at hi i -ℤ at lo i)) (lit< tt)))))
 
-  half-most : inUnits (halfWidth lo hi i) ≤F value (radius (ends lo hi i))
-  unfolding radius
-  half-most =
-      let x = difference (point (ends lo hi i .hi)) (point (mid (ends lo hi i))) .hi in
-      let y = difference (point (mid (ends lo hi i))) (point (ends lo hi i .lo)) .hi in
-      ≤F-trans (≈F-ge (≈F-trans (≈F-sym (over-sub (whole (at hi i)) (centreAt lo hi i) (lit< tt))) (over-cong (lit< tt) half-above)))
-      (≤F-trans (high above) (greatest-left x y (small-finite 12 x (above .small-hi)) (small-finite 12 y (below .small-hi))))
-
   -- ---- a point of the box
   module _ (p : Point) (inside : InBox lo hi p) where
-    -- |p − m| ≤ r
+    -- |p − m| is at most the half-width
     pub offset : AbsF (p i -F centreAt lo hi i) (halfWidth lo hi i)
     offset = record {
       low = ≤F-trans (≈F-ge half-below) (sub-monoF (inside .above i b) (≤F-refl (centreAt lo hi i)));
       high = ≤F-trans (sub-monoF (inside .below i b) (≤F-refl (centreAt lo hi i))) (≈F-le half-above);
     }
-
-    pub half-within : AbsF (inUnits (halfWidth lo hi i)) (value (radius (ends lo hi i)))
-    half-within = abs-of-nonneg (≤F-trans (≈F-ge (over-zero (lit< tt))) (over-mono (lit< tt) (abs-nonneg offset))) half-most
-
-    pub offset-within : AbsF (inUnits (p i -F centreAt lo hi i)) (value (radius (ends lo hi i)))
-    offset-within = abs-wider (abs-over (lit< tt) offset) half-most
 
     pub point-in : In 10 (inUnits (p i)) (ends lo hi i)
     point-in = between (tick-small low) (tick-small high')
@@ -135,9 +111,43 @@ module _ (lo hi : List ℤ) (low-in : Within3 1048576 lo) (high-in : Within3 104
     pub centre-below : centreAt lo hi i ≤F whole (at hi i)
     centre-below = ≤F-trans (≈F-le centre-sum) (≤F-trans (over-mono (lit< tt) (add-monoF (≤F-trans (inside .above i b) (inside .below i b)) (≤F-refl (whole (at hi i))))) (≈F-le (doubled (whole (at hi i)))))
 
--- ---- the three radii
-pub radii-in : (lo hi : List ℤ) → Within3 1048576 lo → Within3 1048576 hi
-    → (i : ℕ) → i < 3 → In 12 (value (radius (ends lo hi i))) (boxAt (radii (tickBox lo hi)) i)
-unfolding radii
-radii-in lo hi low-in high-in = three (λ i. In 12 (value (radius (ends lo hi i))) (boxAt (radii (tickBox lo hi)) i))
-    (radius-in lo hi low-in high-in 0 (lit< tt)) (radius-in lo hi low-in high-in 1 (lit< tt)) (radius-in lo hi low-in high-in 2 (lit< tt))
+-- ---- in either arithmetic
+module _ (ar : Arithmetic) where
+  module _ (lo hi : List ℤ) (low-in : Within3 1048576 lo) (high-in : Within3 1048576 hi) (i : ℕ) (b : i < 3) where
+    -- ---- the radius
+    above : In 12 (inUnits (whole (at hi i)) -F inUnits (centreAt lo hi i)) (difference ar (point (nearest (at hi i) 1024)) (point (mid (ends lo hi i))))
+    above = sub-encloses ar tt (high-end lo hi low-in high-in i b) (centre-in lo hi low-in high-in i b)
+
+    below : In 12 (inUnits (centreAt lo hi i) -F inUnits (whole (at lo i))) (difference ar (point (mid (ends lo hi i))) (point (nearest (at lo i) 1024)))
+    below = sub-encloses ar tt (centre-in lo hi low-in high-in i b) (low-end lo hi low-in high-in i b)
+
+    pub radius-in : In 12 (value (radius ar (ends lo hi i))) (point (radius ar (ends lo hi i)))
+    unfolding radius
+    radius-in = point-encloses (radius ar (ends lo hi i))
+        (greatest-one (difference ar (point (ends lo hi i .hi)) (point (mid (ends lo hi i))) .hi)
+        (difference ar (point (mid (ends lo hi i))) (point (ends lo hi i .lo)) .hi) (Small 12) (above .small-hi) (below .small-hi))
+
+    half-most : inUnits (halfWidth lo hi i) ≤F value (radius ar (ends lo hi i))
+    unfolding radius
+    half-most =
+        let x = difference ar (point (ends lo hi i .hi)) (point (mid (ends lo hi i))) .hi in
+        let y = difference ar (point (mid (ends lo hi i))) (point (ends lo hi i .lo)) .hi in
+        ≤F-trans (≈F-ge (≈F-trans (≈F-sym (over-sub (whole (at hi i)) (centreAt lo hi i) (lit< tt)))
+        (over-cong (lit< tt) (half-above lo hi low-in high-in i b))))
+        (≤F-trans (high above) (greatest-left x y (small-finite 12 x (above .small-hi)) (small-finite 12 y (below .small-hi))))
+
+    -- a point of the box: |p − m| ≤ r
+    module _ (p : Point) (inside : InBox lo hi p) where
+      pub half-within : AbsF (inUnits (halfWidth lo hi i)) (value (radius ar (ends lo hi i)))
+      half-within = abs-of-nonneg (≤F-trans (≈F-ge (over-zero (lit< tt))) (over-mono (lit< tt) (abs-nonneg (offset lo hi low-in high-in i b p inside))))
+          half-most
+
+      pub offset-within : AbsF (inUnits (p i -F centreAt lo hi i)) (value (radius ar (ends lo hi i)))
+      offset-within = abs-wider (abs-over (lit< tt) (offset lo hi low-in high-in i b p inside)) half-most
+
+  -- ---- the three radii
+  pub radii-in : (lo hi : List ℤ) → Within3 1048576 lo → Within3 1048576 hi
+      → (i : ℕ) → i < 3 → In 12 (value (radius ar (ends lo hi i))) (boxAt (radii ar (tickBox lo hi)) i)
+  unfolding radii
+  radii-in lo hi low-in high-in = three (λ i. In 12 (value (radius ar (ends lo hi i))) (boxAt (radii ar (tickBox lo hi)) i))
+      (radius-in lo hi low-in high-in 0 (lit< tt)) (radius-in lo hi low-in high-in 1 (lit< tt)) (radius-in lo hi low-in high-in 2 (lit< tt))

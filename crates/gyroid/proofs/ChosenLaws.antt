@@ -11,7 +11,7 @@ use lib.Ieee.{ofBits}
 use Rattle.exact.specs.Fraction.{Fraction, whole, zeroF, _*F_, _≤F_, _<F_, AbsF}
 use Rattle.exact.proofs.Fraction.{≤F-refl, ≤F-trans, ≈F-ge, num-nonneg, whole-le}
 use Rattle.exact.proofs.FractionSize.{abs-of-nonneg}
-use Rattle.interval.specs.Interval.{twoPi}
+use Rattle.interval.specs.Interval.{Arithmetic, twoPi}
 use Rattle.interval.specs.Encloses.{value, _∈_}
 use Rattle.grade.specs.Grade.{at, Point, ticks}
 use Rattle.grade.specs.Refusals.{above}
@@ -22,7 +22,7 @@ use Rattle.gyroid.specs.declared.Description.{Description}
 use Rattle.gyroid.specs.declared.State.{State}
 use Rattle.gyroid.specs.Fits.{Accepted}
 use Rattle.gyroid.specs.Leaf.{leaf}
-use Rattle.gyroid.specs.Residual.{bracketAt, boxState}
+use Rattle.gyroid.specs.Residual.{boxState}
 use Rattle.gyroid.specs.Admitted.{halfWidth, tickBox, bracketOf, surface, Chosen, wave}
 use Rattle.gyroid.specs.Settles.{Settles, Some}
 use Rattle.gyroid.proofs.BracketLaws.{Bracket, bracket-of}
@@ -52,7 +52,7 @@ chosen d lo hi = record {
     k : Fraction
     k = wave d lo hi (value (twoPi .lo))
 
-    law : Bracket (bracketOf (surface d lo hi)) (bracketAt (surface d lo hi))
+    law : Bracket (bracketOf (surface d lo hi))
     law = bracket-of (surface d lo hi)
 
     r : ℕ → Fraction
@@ -69,15 +69,17 @@ corner-inside lo hi t =
     }
 
 -- ---- so a settled box has an admitted residual, of the sign that its state says
-module _ (d : Description) (none : Accepted d) (lo hi : List ℤ) (low-ticks : T (ticks lo)) (high-ticks : T (ticks hi)) (order : T (not (above lo hi))) where
+module _
+    (ar : Arithmetic) (d : Description) (none : Accepted d) (lo hi : List ℤ) (low-ticks : T (ticks lo)) (high-ticks : T (ticks hi))
+    (order : T (not (above lo hi))) where
   abbrev corner : Point
   corner i = whole (at lo i)
 
-  settles : (s : State) → boxState (leaf d) (tickBox lo hi) ≡ s → Settles d lo hi s
-  settles s e = subst (Settles d lo hi) e (state-settles d none lo hi low-ticks high-ticks)
+  settles : (s : State) → boxState ar (leaf ar d) (tickBox lo hi) ≡ s → Settles d lo hi s
+  settles s e = subst (Settles d lo hi) e (state-settles ar d none lo hi low-ticks high-ticks)
 
-  pub inside-some : boxState (leaf d) (tickBox lo hi) ≡ State.Inside → Some d lo hi (λ q. q <F zeroF)
+  pub inside-some : boxState ar (leaf ar d) (tickBox lo hi) ≡ State.Inside → Some d lo hi (λ q. q <F zeroF)
   inside-some e = record { p = corner; inside = corner-inside lo hi order; chosen = chosen d lo hi; says = settles State.Inside e corner (corner-inside lo hi order) (chosen d lo hi) }
 
-  pub outside-some : boxState (leaf d) (tickBox lo hi) ≡ State.Outside → Some d lo hi (λ q. zeroF <F q)
+  pub outside-some : boxState ar (leaf ar d) (tickBox lo hi) ≡ State.Outside → Some d lo hi (λ q. zeroF <F q)
   outside-some e = record { p = corner; inside = corner-inside lo hi order; chosen = chosen d lo hi; says = settles State.Outside e corner (corner-inside lo hi order) (chosen d lo hi) }

@@ -7,7 +7,7 @@ use lib.Dec.{T}
 use lib.IntN.{ℤ}
 use Rattle.exact.specs.Fraction.{Fraction, _-F_}
 use Rattle.interval.specs.declared.Interval.{Interval}
-use Rattle.interval.specs.Interval.{sum, difference}
+use Rattle.interval.specs.Interval.{Arithmetic, sum, difference}
 use Rattle.interval.specs.Encloses.{value}
 use Rattle.interval.proofs.Membership.{In, wider}
 use Rattle.grade.specs.Grade.{Point}
@@ -33,40 +33,41 @@ abbrev pub HoldsIn : Residual → Fraction → Type 0
 HoldsIn (Residual.Enclosure lo hi) q = In 133 q (record { lo = lo; hi = hi })
 HoldsIn Residual.None q = Unit {0}
 
--- `expansion` holds a surface, less any level l at the centre with any slope s: its value v, its gradient and a term e of second order
-abbrev pub Expands : Gyroid → List Interval → Fraction → (ℕ → Fraction) → Fraction → (ℕ → Fraction) → Type 0
-Expands leaf w v steep e o = (l : Fraction) (s : ℕ → Fraction) (L : Interval) (S : List Interval)
-    → In 100 l L → ((i : ℕ) → i < 3 → In 100 (s i) (boxAt S i)) → HoldsIn (expansion leaf w L S) (expandedAt v steep e l s o)
+module _ (ar : Arithmetic) where
+  -- `expansion` holds a surface, less any level l at the centre with any slope s: its value v, its gradient and a term e of second order
+  abbrev pub Expands : Gyroid → List Interval → Fraction → (ℕ → Fraction) → Fraction → (ℕ → Fraction) → Type 0
+  Expands leaf w v steep e o = (l : Fraction) (s : ℕ → Fraction) (L : Interval) (S : List Interval)
+      → In 100 l L → ((i : ℕ) → i < 3 → In 100 (s i) (boxAt S i)) → HoldsIn (expansion ar leaf w L S) (expandedAt v steep e l s o)
 
--- THE FACT, "from the jet and the bound alone"
-module _
-    (leaf : Gyroid) (lo hi : List ℤ) (low-in : Within3 1048576 lo) (high-in : Within3 1048576 hi) (p : Point) (inside : InBox lo hi p)
-    (v e : Fraction) (steep : ℕ → Fraction) where
-  abbrev w : List Interval
-  w = tickBox lo hi
+  -- THE FACT, "from the jet and the bound alone"
+  module _
+      (leaf : Gyroid) (lo hi : List ℤ) (low-in : Within3 1048576 lo) (high-in : Within3 1048576 hi) (p : Point) (inside : InBox lo hi p)
+      (v e : Fraction) (steep : ℕ → Fraction) where
+    abbrev w : List Interval
+    w = tickBox lo hi
 
-  abbrev j : Jet
-  j = jet leaf (centre w)
+    abbrev j : Jet
+    j = jet ar leaf (centre w)
 
-  abbrev q : Interval
-  q = secondOrder (leaf .surface) (leaf .«wave_squared») (radii w)
+    abbrev q : Interval
+    q = secondOrder ar (leaf .surface) (leaf .«wave_squared») (radii ar w)
 
-  abbrev o : ℕ → Fraction
-  o i = inUnits (p i -F centreAt lo hi i)
+    abbrev o : ℕ → Fraction
+    o i = inUnits (p i -F centreAt lo hi i)
 
-  pub expansion-holds : JetHolds j v steep → TermHolds q e → Expands leaf w v steep e o
-  unfolding expansion expanded bound
-  expansion-holds at-centre term l s L S level slope = finite (not (allFinite w))
-    where
-      about : Residual
-      about = held (sum (difference (j .value) L) (symmetric (sum (spread (minus (j .gradient) S) (radii w)) q .hi)))
+    pub expansion-holds : JetHolds j v steep → TermHolds q e → Expands leaf w v steep e o
+    unfolding expansion expanded bound
+    expansion-holds at-centre term l s L S level slope = finite (not (allFinite w))
+      where
+        about : Residual
+        about = held (sum ar (difference ar (j .value) L) (symmetric (sum ar (spread ar (minus ar (j .gradient) S) (radii ar w)) q .hi)))
 
-      found : (b : Bool) → (T b → T (j .found)) → HoldsIn (cond (not b) Residual.None about) (expandedAt v steep e l s o)
-      found false t = tt
-      found true t = second-order v l e (term .most) steep s o (λ i. value (radius (ends lo hi i))) (j .value) L q (j .gradient) S (radii w)
-          (at-centre .value (t tt)) (at-centre .gradient (t tt)) level slope (λ i b. wider 20 tt (radii-in lo hi low-in high-in i b))
-          (λ i b. offset-within lo hi low-in high-in i b p inside) (term .holds) (term .within)
+        found : (b : Bool) → (T b → T (j .found)) → HoldsIn (cond (not b) Residual.None about) (expandedAt v steep e l s o)
+        found false t = tt
+        found true t = second-order ar v l e (term .most) steep s o (λ i. value (radius ar (ends lo hi i))) (j .value) L q (j .gradient) S (radii ar w)
+            (at-centre .value (t tt)) (at-centre .gradient (t tt)) level slope (λ i b. wider 20 tt (radii-in ar lo hi low-in high-in i b))
+            (λ i b. offset-within ar lo hi low-in high-in i b p inside) (term .holds) (term .within)
 
-      finite : (b : Bool) → HoldsIn (cond b Residual.None (cond (not (j .found)) Residual.None about)) (expandedAt v steep e l s o)
-      finite true = tt
-      finite false = found (j .found) (λ t. t)
+        finite : (b : Bool) → HoldsIn (cond b Residual.None (cond (not (j .found)) Residual.None about)) (expandedAt v steep e l s o)
+        finite true = tt
+        finite false = found (j .found) (λ t. t)

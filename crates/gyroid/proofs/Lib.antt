@@ -20,8 +20,13 @@ pub mod PartLaws
 -- boxes with an infinite end, and boxes with a zero of either sign
 pub mod InfiniteLaws
 pub mod AlikeLaws
+-- exact sums stay narrow: what the residual is made of, and the residual, lie in the wide ones
+pub mod NarrowerLaws
+mod NarrowerJet
+mod NarrowerBound
 -- what the proofs of the code cite
 mod TurnSizes
 -- worked by computation
 mod AdmittedExamples
 mod MarkExamples
+mod EitherExamples

@@ -31,19 +31,16 @@
 use mathlib.Core.Bool.{cond}
 use mathlib.Core.List.{List, [], _∷_}
 use Prim.Native.Nat.{ℕ, zero, suc, _<_}
-use lib.Dec.{T, eqb}
+use lib.Dec.{eqb}
 use lib.IntN.{ℤ, natAbs, _+ℤ_, _-ℤ_}
-use lib.Ieee.{Float}
-use lib.Ieee.Scale.{finite}
-use Rattle.exact.specs.Fraction.{Fraction, whole, oneF, _+F_, _-F_, _*F_, _/F_, negF, _≈F_, AbsF}
+use Rattle.exact.specs.Fraction.{Fraction, whole, oneF, _+F_, _-F_, _*F_, _/F_, negF, AbsF}
 use Rattle.interval.specs.declared.Interval.{Interval}
 use Rattle.interval.specs.Interval.{point, product, mid, twoPi}
 use Rattle.interval.specs.Nearest.{nearest}
 use Rattle.interval.specs.Floor.{modFour}
 use Rattle.interval.specs.Series.{sineTerm, cosineTerm, tail}
-use Rattle.interval.specs.Encloses.{value, _∈_}
+use Rattle.interval.specs.Encloses.{_∈_}
 use Rattle.grade.specs.Grade.{at, Point, level}
-use Rattle.grade.specs.Intervals.{boxAt}
 use Rattle.gyroid.specs.declared.Description.{Description}
 use Rattle.gyroid.specs.declared.Surface.{Surface}
 use Rattle.gyroid.specs.Leaf.{surfaceOf, turns}
@@ -62,15 +59,6 @@ ends lo hi i = record { lo = nearest (at lo i) 1024; hi = nearest (at hi i) 1024
 
 abbrev pub tickBox : List ℤ → List ℤ → List Interval
 tickBox lo hi = ends lo hi 0 ∷ ends lo hi 1 ∷ ends lo hi 2 ∷ []
-
--- and any box with those ends: a zero among them may have either sign, for "zeros of either sign are alike"
-pub record AtTick (x : Float) (n : ℤ) : Type 0 where
-  pub finite : T (finite x)
-  pub value : value x ≈F whole n /F 1024
-
-pub record OfTicks (lo hi : List ℤ) (w : List Interval) : Type 0 where
-  pub lows : (i : ℕ) → i < 3 → AtTick (boxAt w i .lo) (at lo i)
-  pub highs : (i : ℕ) → i < 3 → AtTick (boxAt w i .hi) (at hi i)
 
 -- ---- "the exact polynomials": f 0 + f 1 · x + .. + f n · xⁿ
 abbrev pub power : Fraction → ℕ → Fraction

@@ -2,7 +2,7 @@
 use mathlib.Core.Bool.{cond}
 use lib.IntN.{ℤ, pos, natAbs, _+ℤ_, _*ℤ_}
 use Rattle.interval.specs.declared.Interval.{Interval}
-use Rattle.interval.specs.Interval.{twoPi, product, square}
+use Rattle.interval.specs.Interval.{Arithmetic, twoPi, product, square}
 use Rattle.interval.specs.Nearest.{nearest, fromRational}
 use Rattle.interval.specs.Series.{sineTerm, cosineTerm, nine, tailUp}
 use Rattle.grade.specs.declared.Linear.{Linear}
@@ -49,22 +49,24 @@ wave d = product twoPi (turns d)
 abbrev pub slope : Description → Slope
 slope d = slopeBound (compiled (d .level))
 
-unfoldable pub leaf : Description → Gyroid
-leaf d = record {
-  turns = turns d;
-  «two_pi» = twoPi;
-  wave = wave d;
-  «wave_squared» = square (wave d);
-  «interval_level» = unit (constantLevel (compiled (d .level)));
-  sine = nine sineTerm;
-  cosine = nine cosineTerm;
-  «tail_sine» = tailUp 19;
-  «tail_cosine» = tailUp 18;
-  lipschitz = fromRational (lipschitzTop (d .period) (slope d)) (natAbs (lipschitzBottom (d .period) (slope d)));
-  «fast_turns» = nearest (pos 1024) (natAbs (d .period));
-  «fast_level» = near (constantLevel (compiled (d .level)));
-  «fast_lipschitz» = nearest (lipschitzTop (d .period) (slope d)) (natAbs (lipschitzBottom (d .period) (slope d)));
-  grade = compiled (d .level);
-  intervals = gradeIntervals (compiled (d .level));
-  surface = surfaceOf (d .kind);
-}
+-- a linear level's rise is a difference
+module _ (ar : Arithmetic) where
+  unfoldable pub leaf : Description → Gyroid
+  leaf d = record {
+    turns = turns d;
+    «two_pi» = twoPi;
+    wave = wave d;
+    «wave_squared» = square (wave d);
+    «interval_level» = unit (constantLevel (compiled (d .level)));
+    sine = nine sineTerm;
+    cosine = nine cosineTerm;
+    «tail_sine» = tailUp 19;
+    «tail_cosine» = tailUp 18;
+    lipschitz = fromRational (lipschitzTop (d .period) (slope d)) (natAbs (lipschitzBottom (d .period) (slope d)));
+    «fast_turns» = nearest (pos 1024) (natAbs (d .period));
+    «fast_level» = near (constantLevel (compiled (d .level)));
+    «fast_lipschitz» = nearest (lipschitzTop (d .period) (slope d)) (natAbs (lipschitzBottom (d .period) (slope d)));
+    grade = compiled (d .level);
+    intervals = gradeIntervals ar (compiled (d .level));
+    surface = surfaceOf (d .kind);
+  }

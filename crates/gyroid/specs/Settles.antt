@@ -2,7 +2,7 @@
 use mathlib.Core.List.{List}
 use lib.IntN.{ℤ}
 use Rattle.exact.specs.Fraction.{Fraction, zeroF, _<F_}
-use Rattle.interval.specs.Encloses.{_∈_}
+use Rattle.interval.specs.Encloses.{_∈_, _⊑_}
 use Rattle.grade.specs.Grade.{Point}
 use Rattle.grade.specs.Holds.{InBox}
 use Rattle.gyroid.specs.declared.Description.{Description}
@@ -28,3 +28,9 @@ module _ (d : Description) (lo hi : List ℤ) where
     pub inside : InBox lo hi p
     pub chosen : Chosen d lo hi
     pub says : P (admitted d lo hi chosen p)
+
+-- a residual lies in another: an enclosure in an enclosure, and anything in none
+abbrev pub LiesIn : Residual → Residual → Type 0
+LiesIn r Residual.None = Unit {0}
+LiesIn Residual.None (Residual.Enclosure low high) = ⊥
+LiesIn (Residual.Enclosure low high) (Residual.Enclosure low' high') = record { lo = low; hi = high } ⊑ record { lo = low'; hi = high' }

@@ -1,12 +1,15 @@
 // The surface over a box less a level, to second order about the centre.
 ghost use mathlib.Core.Path.{_≡_};
-ghost use Rattle.gyroid.specs.Residual.{centre, radius, radii, reach, spread, bracketAt, bound, held, aboutCentre};
+ghost use Rattle.gyroid.specs.Residual.{centre, reach, held};
+ghost use Rattle.gyroid.specs.InUse.{radii};
+ghost use Rattle.gyroid.specs.FunctionsInUse.{radius, spread, bracketAt, bound, aboutCentre};
 use crate::Residual;
 use crate::Surface;
 use crate::jets::minus;
 use crate::turns::symmetric;
 use interval::Interval;
 use interval::outward::larger;
+use interval::sums::difference_high;
 
 pub fn centre(w: [Interval; 3]) -> [Interval; 3]
     ensures { λ r. ⌜ r ≡ centre w ⌝ }
@@ -21,10 +24,10 @@ pub fn centre(w: [Interval; 3]) -> [Interval; 3]
 pub fn radius(b: Interval) -> f64
     ensures { λ r. ⌜ r ≡ radius b ⌝ }
 {
-    let m = Interval::point(b.mid());
-    let above = Interval::point(b.hi).sub(m);
-    let below = m.sub(Interval::point(b.lo));
-    larger(above.hi, below.hi)
+    let m = b.mid();
+    let above = difference_high(b.hi, m);
+    let below = difference_high(m, b.lo);
+    larger(above, below)
 }
 
 pub fn radii(w: [Interval; 3]) -> [Interval; 3]

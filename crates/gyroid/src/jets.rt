@@ -1,6 +1,8 @@
 // `jet` and `affine_jet`: the surface's value and gradient at a point, and the same less the level's affine extension.
 ghost use mathlib.Core.Path.{_≡_};
-ghost use Rattle.gyroid.specs.Jet.{waves, valueAt, entryAt, gradientAt, noJet, jet, minus, less, affineJet};
+ghost use Rattle.gyroid.specs.Jet.{noJet};
+ghost use Rattle.gyroid.specs.InUse.{waves, gradientAt, jet, minus, affineJet};
+ghost use Rattle.gyroid.specs.FunctionsInUse.{valueAt, entryAt, less};
 use crate::Gyroid;
 use crate::Jet;
 use crate::Surface;

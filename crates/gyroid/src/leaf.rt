@@ -2,9 +2,10 @@
 ghost use mathlib.Core.Path.{_≡_};
 ghost use Rattle.exact.specs.Within.{Within};
 ghost use Rattle.grade.specs.Fits.{SlopeFits};
-ghost use Rattle.gyroid.specs.Leaf.{surfaceOf, constantLevel, lipschitzTop, lipschitzBottom, leaf};
-ghost use Rattle.gyroid.specs.Constructors.{noLeaf, certified, new};
+ghost use Rattle.gyroid.specs.Leaf.{surfaceOf, constantLevel, lipschitzTop, lipschitzBottom};
 ghost use Rattle.gyroid.specs.Fits.{Accepted};
+ghost use Rattle.gyroid.specs.InUse.{leaf};
+ghost use Rattle.gyroid.specs.FunctionsInUse.{noLeaf, certified, new};
 use crate::Compiled;
 use crate::Description;
 use crate::Gyroid;

@@ -1,8 +1,9 @@
 // `residual` one axis at a time: a halving renews one part of three.
 ghost use mathlib.Core.Path.{_≡_};
 ghost use Prim.Native.Nat.{_<_};
-ghost use Rattle.gyroid.specs.Residual.{expansion, stateOf};
-ghost use Rattle.gyroid.specs.Parts.{noShares, shares, noPart, part, centreLevel, aboutAt, levelAbout, joinedAbout, joinedOf, joined};
+ghost use Rattle.gyroid.specs.Residual.{stateOf};
+ghost use Rattle.gyroid.specs.Parts.{noShares, noPart, heldOn};
+ghost use Rattle.gyroid.specs.FunctionsInUse.{expansion, shares, part, aboutAt, levelAbout, joinedAbout, joinedOf, joined};
 use crate::Gyroid;
 use crate::LevelAbout;
 use crate::Part;
@@ -20,10 +21,12 @@ use crate::jets::gradient_at;
 use crate::jets::value_at;
 use grade::GradeIntervals;
 use grade::LevelKind;
-use grade::LinearIntervals;
 use grade::Piece;
 use grade::PieceAnswer;
+use grade::intervals::along;
+use grade::intervals::divided;
 use grade::intervals::piece_of;
+use grade::intervals::risen;
 use grade::intervals::zeros;
 use interval::Interval;
 
@@ -48,10 +51,13 @@ fn shares(levels: GradeIntervals, axis: usize, b: Interval, m: Interval) -> Shar
     match kind {
         LevelKind::Constant => Shares::none(),
         LevelKind::Linear => {
-            let linear = levels.linear;
+            let from = levels.linear.from;
+            let direction = levels.linear.direction;
+            let f = from[axis];
+            let d = direction[axis];
             Shares {
-                along: linear.along_axis(axis, b),
-                middle: linear.along_axis(axis, m),
+                along: along(b, f, d),
+                middle: along(m, f, d),
             }
         }
     }
@@ -72,14 +78,14 @@ impl Part {
     }
 }
 
-// The level at the centre of a box that is one piece, t being m there.
-fn centre_level(linear: LinearIntervals, piece: Piece, m: Interval) -> Interval
-    ensures { λ r. ⌜ r ≡ centreLevel linear piece m ⌝ }
+// t at the centre of a box that is one piece, m being what it is without the ends.
+fn held_on(piece: Piece, m: Interval) -> Interval
+    ensures { λ r. ⌜ r ≡ heldOn piece m ⌝ }
 {
     match piece {
-        Piece::Start => linear.level_of(m.clamp01()),
-        Piece::Ramp => linear.level_of(m),
-        Piece::End => linear.level_of(m.clamp01()),
+        Piece::Start => m.clamp01(),
+        Piece::Ramp => m,
+        Piece::End => m.clamp01(),
     }
 }
 
@@ -87,11 +93,12 @@ fn centre_level(linear: LinearIntervals, piece: Piece, m: Interval) -> Interval
 fn about_at(levels: GradeIntervals, t: Interval, m: Interval) -> LevelAbout
     ensures { λ r. ⌜ r ≡ aboutAt levels t m ⌝ }
 {
-    let linear = levels.linear;
+    let start = levels.linear.start;
+    let rise = levels.linear.rise;
     let zero = Interval::point(0.0);
     match piece_of(t) {
         PieceAnswer::Found(piece) => LevelAbout {
-            at: centre_level(linear, piece, m),
+            at: risen(start, rise, held_on(piece, m)),
             slope: levels.piece_gradient(piece),
             across: false,
             range: zero,
@@ -100,7 +107,7 @@ fn about_at(levels: GradeIntervals, t: Interval, m: Interval) -> LevelAbout
             at: zero,
             slope: zeros(),
             across: true,
-            range: linear.level_of(t.clamp01()),
+            range: risen(start, rise, t.clamp01()),
         },
     }
 }
@@ -124,9 +131,9 @@ fn level_about(
             range: Interval::point(0.0),
         },
         LevelKind::Linear => {
-            let linear = levels.linear;
-            let t = linear.parameter_of(x.along, y.along, z.along);
-            let m = linear.parameter_of(x.middle, y.middle, z.middle);
+            let length = levels.linear.length_sq;
+            let t = divided(x.along, y.along, z.along, length);
+            let m = divided(x.middle, y.middle, z.middle, length);
             about_at(levels, t, m)
         }
     }

@@ -1,6 +1,7 @@
 // `residual`, `affine_residual`, and `box_state`, the mark that a residual gives a box.
 ghost use mathlib.Core.Path.{_≡_};
-ghost use Rattle.gyroid.specs.Residual.{residual, affineResidual, stateOf, boxState};
+ghost use Rattle.gyroid.specs.Residual.{stateOf};
+ghost use Rattle.gyroid.specs.InUse.{residual, affineResidual, boxState};
 use crate::Gyroid;
 use crate::Residual;
 use crate::State;

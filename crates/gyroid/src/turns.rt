@@ -1,7 +1,9 @@
 // `turn`: sine and cosine of one turn coordinate, by a quarter number taken off and nine terms of each series.
 ghost use mathlib.Core.Path.{_≡_};
-ghost use Rattle.gyroid.specs.Turn.{reducible, reduced, beyond, horner, symmetric, sineAt, cosineAt, turned, turn};
-ghost use Rattle.interval.specs.Interval.{sum, product};
+ghost use Rattle.gyroid.specs.Turn.{reducible, beyond, symmetric, turned};
+ghost use Rattle.gyroid.specs.FunctionsInUse.{reduced, horner, sineAt, cosineAt, turn};
+ghost use Rattle.interval.specs.Interval.{product};
+ghost use Rattle.grade.specs.InUse.{sum};
 use crate::Circle;
 use crate::Gyroid;
 use crate::Turn;
@@ -33,30 +35,6 @@ fn beyond(u: Interval) -> bool
     (u.lo < -0.8) | (0.8 < u.hi)
 }
 
-// A step of Horner's rule in both series side by side: neither waits for the other.
-fn step(a: Circle, x: Interval, s: Interval, c: Interval) -> Circle
-    ensures { λ r. ⌜ r ≡ record { sine = sum (product (a .sine) x) s; cosine = sum (product (a .cosine) x) c } ⌝ }
-{
-    Circle {
-        sine: a.sine.mul(x).add(s),
-        cosine: a.cosine.mul(x).add(c),
-    }
-}
-
-fn series(sines: [Interval; 9], cosines: [Interval; 9], x: Interval) -> Circle
-    ensures { λ r. ⌜ r ≡ record { sine = horner sines x 8; cosine = horner cosines x 8 } ⌝ }
-{
-    let sine = sines[8];
-    let cosine = cosines[8];
-    let mut a = Circle { sine, cosine };
-    let mut i: usize = 8;
-    while i > 0 {
-        i -= 1;
-        a = step(a, x, sines[i], cosines[i]);
-    }
-    a
-}
-
 // From the negative of x to x.
 pub fn symmetric(x: f64) -> Interval
     ensures { λ r. ⌜ r ≡ symmetric x ⌝ }
@@ -76,12 +54,33 @@ fn turned(m: u64, sine: Interval, cosine: Interval) -> Turn
 }
 
 impl Gyroid {
+    // Horner's rule in both series side by side, neither of which waits for the other, written out: so no coefficient is copied.
+    fn series(self, x: Interval) -> Circle
+        ensures { λ r. ⌜ r ≡ record { sine = horner (self .sine) x 8; cosine = horner (self .cosine) x 8 } ⌝ }
+    {
+        let s = self.sine[8].mul(x).add(self.sine[7]);
+        let c = self.cosine[8].mul(x).add(self.cosine[7]);
+        let s = s.mul(x).add(self.sine[6]);
+        let c = c.mul(x).add(self.cosine[6]);
+        let s = s.mul(x).add(self.sine[5]);
+        let c = c.mul(x).add(self.cosine[5]);
+        let s = s.mul(x).add(self.sine[4]);
+        let c = c.mul(x).add(self.cosine[4]);
+        let s = s.mul(x).add(self.sine[3]);
+        let c = c.mul(x).add(self.cosine[3]);
+        let s = s.mul(x).add(self.sine[2]);
+        let c = c.mul(x).add(self.cosine[2]);
+        let s = s.mul(x).add(self.sine[1]);
+        let c = c.mul(x).add(self.cosine[1]);
+        let s = s.mul(x).add(self.sine[0]);
+        let c = c.mul(x).add(self.cosine[0]);
+        Circle { sine: s, cosine: c }
+    }
+
     fn circle(self, u: Interval) -> Circle
         ensures { λ r. ⌜ r ≡ record { sine = sineAt self u; cosine = cosineAt self u } ⌝ }
     {
-        let sines = self.sine;
-        let cosines = self.cosine;
-        let s = series(sines, cosines, u.square());
+        let s = self.series(u.square());
         Circle {
             sine: s.sine.mul(u).add(symmetric(self.tail_sine)),
             cosine: s.cosine.add(symmetric(self.tail_cosine)),

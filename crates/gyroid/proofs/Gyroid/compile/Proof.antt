@@ -16,8 +16,8 @@ use Rattle.interval.specs.Interval.{product, square}
 use Rattle.interval.specs.Nearest.{nearest, fromRational}
 use Rattle.grade.specs.Exact.{compiled}
 use Rattle.grade.specs.Certified.{slopeBound}
-use Rattle.grade.specs.Intervals.{gradeIntervals}
 use Rattle.grade.specs.Fits.{DefFits, SlopeFits}
+use Rattle.grade.specs.FunctionsInUse.{gradeIntervals}
 use Rattle.gyroid.specs.Leaf.{surfaceOf, constantLevel, lipschitzTop, lipschitzBottom, leaf}
 use Rattle.gyroid.proofs.AcceptedLaws.{accepted, constant-within, top-within, bottom-within, bottom-above}
 use Rattle.gyroid.proofs.Gyroid.compile.Statement.{statement}

@@ -1,16 +1,15 @@
 -- The expansion from the three parts. Assumes nothing.
-use mathlib.Core.Path.{_≡_, sym, _∙_}
-use mathlib.Core.Bool.{Bool, true, false, not, _&&_}
+use mathlib.Core.Path.{_≡_, sym}
 use mathlib.Core.List.{List}
 use borrow.Author.Needs.{needs}
 use Rattle.interval.specs.declared.Interval.{Interval}
 use Rattle.grade.specs.Intervals.{boxAt}
+use Rattle.grade.specs.InUse.{inUse}
 use Rattle.gyroid.specs.declared.Gyroid.{Gyroid}
 use Rattle.gyroid.specs.declared.Part.{Part}
 use Rattle.gyroid.specs.declared.Residual.{Residual}
-use Rattle.gyroid.specs.declared.Residual.the-variants.{None}
-use Rattle.gyroid.specs.Residual.{held, expansion}
-use Rattle.gyroid.specs.Parts.{part, joinedAbout}
+use Rattle.gyroid.specs.Residual.{held}
+use Rattle.gyroid.specs.FunctionsInUse.{expansion, part}
 use Rattle.gyroid.proofs.PartLaws.{expansionOf, expansion-joined}
 use Rattle.gyroid.proofs.Gyroid.expansion.Statement.{statement}
 use Rattle.gyroid.proofs.Gyroid.expansion.Tie as tie
@@ -20,9 +19,9 @@ formed : (g : Gyroid) (w : List Interval) (level : Interval) (slope : List Inter
     → x ≡ part g 0 (boxAt w 0)
     → y ≡ part g 1 (boxAt w 1)
     → z ≡ part g 2 (boxAt w 2)
-    → r ≡ expansionOf g x y z level slope
+    → r ≡ expansionOf inUse g x y z level slope
     → r ≡ expansion g w level slope
-formed g w level slope ex ey ez er = rw (er, ex, ey, ez) (sym (expansion-joined g w level slope))
+formed g w level slope ex ey ez er = rw (er, ex, ey, ez) (sym (expansion-joined inUse g w level slope))
 
 array-copy-out-part : tie.Need-array-copy-out-part
 array-copy-out-part c = search needs

@@ -11,9 +11,8 @@ use Rattle.gyroid.specs.declared.Turn.{Turn}
 use Rattle.gyroid.specs.declared.Shares.{Shares}
 use Rattle.gyroid.specs.declared.Part.{Part}
 use Rattle.gyroid.specs.Refusals.{endsWithin, greatestDouble}
-use Rattle.gyroid.specs.Turn.{turn}
-use Rattle.gyroid.specs.Residual.{radius}
-use Rattle.gyroid.specs.Parts.{shares, part}
+use Rattle.gyroid.specs.Parts
+use Rattle.gyroid.specs.FunctionsInUse.{turn, radius, shares, part}
 use Rattle.gyroid.proofs.Gyroid.part.Statement.{statement}
 use Rattle.gyroid.proofs.Gyroid.part.Tie as tie
 
@@ -31,11 +30,11 @@ found : (g : Gyroid) (i : ℕ) (b : Interval) {q : Bool} {f x : Float} {m n s c 
     → x ≡ radius b
     → h ≡ shares (g .intervals) i b m
     → _≡_ {A = Part} (record { found = true; radius = x; sine = s; cosine = c; shares = h }) (part g i b)
-unfolding part
+unfolding Parts.part
 found g i b e0 e1 e2 e3 e4 e5 e6 e7 e8 = cc
 
 returns : tie.Need-returns
-unfolding part
+unfolding Parts.part
 returns c = rw (c .none .ensures, ← c .before .before .finite .ensures, c .before .if1 .taken)
 
 turn-requires : tie.Need-turn-requires
@@ -51,7 +50,7 @@ none-requires-2 : tie.Need-none-requires-2
 none-requires-2 c κs = search needs
 
 returns-2 : tie.Need-returns-2
-unfolding part
+unfolding Parts.part
 returns-2 c =
     let c3 = c .before .before .before in
     let c4 = c3 .before in

@@ -1,5 +1,6 @@
 -- The three parts joined are the residual. Assumes nothing.
 use borrow.Author.Needs.{needs}
+use Rattle.grade.specs.InUse.{inUse}
 use Rattle.gyroid.proofs.PartLaws.{joined-residual}
 use Rattle.gyroid.proofs.Gyroid.residual.Statement.{statement}
 use Rattle.gyroid.proofs.Gyroid.residual.Tie as tie
@@ -29,7 +30,7 @@ returns : tie.Need-returns
 returns c =
     let c3 = c .before .before .before in
     let c5 = c3 .before .before in
-    rw (c .joined .ensures, c .before .part3 .ensures, c3 .part2 .ensures, c5 .part .ensures) (joined-residual _ _)
+    rw (c .joined .ensures, c .before .part3 .ensures, c3 .part2 .ensures, c5 .part .ensures) (joined-residual inUse _ _)
 
 pub residual-spec : {M : Type 1} → statement M
 residual-spec =

@@ -2,11 +2,11 @@
 use mathlib.Core.List.{List}
 use lib.Ieee.{Float}
 use mathlib.Core.Path.{_≡_}
-use Rattle.gyroid.specs.Jet.{minus}
-use Rattle.gyroid.specs.Residual.{bound, aboutCentre}
-use Rattle.interval.specs.Interval.{difference, sum}
 use Rattle.gyroid.specs.Turn.{symmetric}
+use Rattle.gyroid.specs.InUse.{minus}
+use Rattle.gyroid.specs.FunctionsInUse.{bound, aboutCentre}
 use Rattle.interval.specs.declared.Interval.{Interval}
+use Rattle.grade.specs.InUse.{difference, sum}
 use Rattle.gyroid.proofs.expand.about_centre.Statement.{statement}
 use Rattle.gyroid.proofs.expand.about_centre.Tie as tie
 

@@ -2,7 +2,8 @@
 use mathlib.Core.Path.{_≡_}
 use borrow.Author.Needs.{needs}
 use Rattle.interval.specs.declared.Interval.{Interval}
-use Rattle.interval.specs.Interval.{square, sum}
+use Rattle.interval.specs.Interval.{square}
+use Rattle.grade.specs.InUse.{sum}
 use Rattle.gyroid.specs.Residual.{bracketAt}
 use Rattle.gyroid.proofs.expand.bracket_at.Statement.{statement}
 use Rattle.gyroid.proofs.expand.bracket_at.Tie as tie
