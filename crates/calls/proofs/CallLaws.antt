@@ -13,10 +13,11 @@ use Rattle.interval.proofs.Small.{small-between}
 use Rattle.grade.specs.declared.PieceAnswer.{PieceAnswer}
 use Rattle.grade.specs.Grade.{Point, ticks}
 use Rattle.grade.specs.Exact.{compiled, exactPiece}
-use Rattle.grade.specs.Holds.{InBox, SaysLevel}
+use Rattle.grade.specs.Holds.{InBox, SaysLevel, OfTicks}
 use Rattle.grade.specs.Said.{Said, found, refusing, answered}
 use Rattle.grade.specs.Refusals.{refused, _orElse_, above}
 use Rattle.grade.specs.Fits.{DefFits, Within3}
+use Rattle.grade.specs.InUse.{inUse}
 use Rattle.grade.proofs.Entries.{both, ticks-within}
 use Rattle.grade.proofs.PieceLaws.{exact-piece-says}
 use Rattle.grade.proofs.RefusalLaws.{none-first, none-last, kept, neither}
@@ -25,10 +26,9 @@ use Rattle.gyroid.specs.declared.Residual.{Residual}
 use Rattle.gyroid.specs.declared.State.{State}
 use Rattle.gyroid.specs.Refusals.{refusal, endsWithin, allFinite}
 use Rattle.gyroid.specs.Fits.{Accepted}
-use Rattle.gyroid.specs.Leaf.{leaf}
-use Rattle.gyroid.specs.Residual.{residual, affineResidual, boxState, stateNumber}
-use Rattle.gyroid.specs.Admitted.{OfTicks}
+use Rattle.gyroid.specs.Residual.{stateNumber}
 use Rattle.gyroid.specs.Settles.{Holds, Settles}
+use Rattle.gyroid.specs.InUse.{leaf, residual, affineResidual, boxState}
 use Rattle.gyroid.proofs.AcceptedLaws.{accepted}
 use Rattle.gyroid.proofs.LeafLaws.{leaf-grade, turns-small}
 use Rattle.gyroid.proofs.InfiniteLaws.{residual-none, affine-residual-none, box-state-unsettled}
@@ -97,20 +97,20 @@ rows {A} d w v {z} at-infinite = go (eqb n 0) refl (allOrdered w) (allFinite w) 
 module _ (d : Description) (w : List Interval) where
   pub residual-rows : numbered d w (residualValues (residual (leaf d) w)) ≡ residualCall d w
   unfolding residualCall
-  residual-rows = rows d w (residualValues (residual (leaf d) w)) (λ t. ap residualValues (residual-none (leaf d) w t))
+  residual-rows = rows d w (residualValues (residual (leaf d) w)) (λ t. ap residualValues (residual-none inUse (leaf d) w t))
 
   pub affine-rows : numbered d w (residualValues (affineResidual (leaf d) w)) ≡ affineResidualCall d w
   unfolding affineResidualCall
-  affine-rows = rows d w (residualValues (affineResidual (leaf d) w)) (λ t. ap residualValues (affine-residual-none (leaf d) w t))
+  affine-rows = rows d w (residualValues (affineResidual (leaf d) w)) (λ t. ap residualValues (affine-residual-none inUse (leaf d) w t))
 
   pub state-rows : numbered d w (stateNumber (boxState (leaf d) w) ∷ []) ≡ boxStateCall d w
   unfolding boxStateCall
-  state-rows = rows d w (stateNumber (boxState (leaf d) w) ∷ []) (λ t. ap (λ (s : State). stateNumber s ∷ []) (box-state-unsettled (leaf d) w t))
+  state-rows = rows d w (stateNumber (boxState (leaf d) w) ∷ []) (λ t. ap (λ (s : State). stateNumber s ∷ []) (box-state-unsettled inUse (leaf d) w t))
 
 pub enclosure-holds : (d : Description) (w : List Interval) → refusal d ≡ 0 → EnclosureHolds d w (residualAnswer (residual (leaf d) w))
 enclosure-holds d w e =
     let a : Accepted d = record { none = e } in
-    go (residual (leaf d) w) (λ lo hi l h q. subst⁻¹ (Holds d lo hi) (residual-same d a lo hi l h w q) (residual-holds d a lo hi l h))
+    go (residual (leaf d) w) (λ lo hi l h q. subst⁻¹ (Holds d lo hi) (residual-same inUse d a lo hi l h w q) (residual-holds inUse d a lo hi l h))
   where
     go : (r : Residual) → ((lo hi : List ℤ) → T (ticks lo) → T (ticks hi) → OfTicks lo hi w → Holds d lo hi r) → EnclosureHolds d w (residualAnswer r)
     go (Residual.Enclosure lo hi) f = f
@@ -119,7 +119,7 @@ enclosure-holds d w e =
 pub state-settled : (d : Description) (w : List Interval) → refusal d ≡ 0 → StateSettles d w (StateAnswer.Found (boxState (leaf d) w))
 state-settled d w e =
     let a : Accepted d = record { none = e } in
-    λ lo hi l h q. subst⁻¹ (Settles d lo hi) (state-same d a lo hi l h w q) (state-settles d a lo hi l h)
+    λ lo hi l h q. subst⁻¹ (Settles d lo hi) (state-same inUse d a lo hi l h w q) (state-settles inUse d a lo hi l h)
 
 -- ---- what `fast_distance` has tested
 pub fast-fits : (d : Description) → refusal d ≡ 0 → FastFits (leaf d)

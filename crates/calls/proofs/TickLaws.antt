@@ -22,6 +22,7 @@ use Rattle.grade.specs.Grade.{at, ticks}
 use Rattle.grade.specs.Refusals.{_orElse_, above}
 use Rattle.grade.specs.Said.{found, answered}
 use Rattle.grade.specs.Intervals.{boxAt}
+use Rattle.grade.specs.InUse.{inUse}
 use Rattle.grade.proofs.Axes.{three}
 use Rattle.grade.proofs.AxisLaws.{within-at}
 use Rattle.grade.proofs.Entries.{not-either, ticks-within}
@@ -30,9 +31,10 @@ use Rattle.gyroid.specs.declared.Residual.{Residual}
 use Rattle.gyroid.specs.declared.State.{State}
 use Rattle.gyroid.specs.Refusals.{endsWithin, allFinite}
 use Rattle.gyroid.specs.Fits.{Accepted}
-use Rattle.gyroid.specs.Leaf.{leaf}
-use Rattle.gyroid.specs.Residual.{residual, boxState, stateNumber}
-use Rattle.gyroid.specs.Admitted.{AtTick, OfTicks, tickBox}
+use Rattle.gyroid.specs.Residual.{stateNumber}
+use Rattle.gyroid.specs.Admitted.{tickBox}
+use Rattle.grade.specs.Holds.{AtTick, OfTicks}
+use Rattle.gyroid.specs.InUse.{leaf, residual, boxState}
 use Rattle.gyroid.proofs.AlikeLaws.{tick-small, residual-same, state-same}
 use Rattle.calls.specs.Refusals.{farthest, allOrdered, allNear, boxRefusal, finiteBoxRefusal}
 use Rattle.calls.specs.Calls.{residualValues, residualCall, boxStateCall}
@@ -110,9 +112,9 @@ module _
     pub residual-ticks : residualCall d w ≡ found (residualValues (residual (leaf d) (tickBox lo hi)))
     residual-ticks =
         sym (residual-rows d w) ∙ answers (residualValues (residual (leaf d) w)) (a .none) ticks-finite-box
-        ∙ ap (λ (r : Residual). found (residualValues r)) (residual-same d a lo hi low-ticks high-ticks w h)
+        ∙ ap (λ (r : Residual). found (residualValues r)) (residual-same inUse d a lo hi low-ticks high-ticks w h)
 
     pub box-state-ticks : boxStateCall d w ≡ found (stateNumber (boxState (leaf d) (tickBox lo hi)) ∷ [])
     box-state-ticks =
         sym (state-rows d w) ∙ answers (stateNumber (boxState (leaf d) w) ∷ []) (a .none) ticks-finite-box
-        ∙ ap (λ (s : State). found (stateNumber s ∷ [])) (state-same d a lo hi low-ticks high-ticks w h)
+        ∙ ap (λ (s : State). found (stateNumber s ∷ [])) (state-same inUse d a lo hi low-ticks high-ticks w h)

@@ -28,11 +28,12 @@ use Rattle.gyroid.specs.declared.Residual.{Residual}
 use Rattle.gyroid.specs.declared.Residual.the-variants.{Enclosure, None}
 use Rattle.gyroid.specs.declared.State.the-variants.{Unsettled}
 use Rattle.gyroid.specs.Refusals.{refusal}
-use Rattle.gyroid.specs.Leaf.{surfaceOf, leaf}
-use Rattle.gyroid.specs.Jet.{noJet, jet, affineJet}
-use Rattle.gyroid.specs.Residual.{residual, affineResidual, boxState, stateNumber}
-use Rattle.gyroid.specs.Admitted.{OfTicks}
+use Rattle.gyroid.specs.Leaf.{surfaceOf}
+use Rattle.gyroid.specs.Jet.{noJet}
+use Rattle.gyroid.specs.Residual.{stateNumber}
+use Rattle.grade.specs.Holds.{OfTicks}
 use Rattle.gyroid.specs.Settles.{Holds, Settles}
+use Rattle.gyroid.specs.InUse.{leaf, jet, affineJet, residual, affineResidual, boxState}
 use Rattle.calls.specs.declared.Derivatives.{Derivatives}
 use Rattle.calls.specs.declared.EnclosureAnswer.{EnclosureAnswer}
 use Rattle.calls.specs.declared.StateAnswer.{StateAnswer}

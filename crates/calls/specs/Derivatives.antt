@@ -7,15 +7,16 @@ use Prim.Native.Nat.{ℕ}
 use lib.Ieee.{Float, binary64, mul}
 use Rattle.interval.specs.declared.Interval.{Interval}
 use Rattle.interval.specs.Step.{b64}
-use Rattle.interval.specs.Interval.{point, sum, difference, product}
+use Rattle.interval.specs.Interval.{point, product}
 use Rattle.grade.specs.declared.Piece.{Piece}
 use Rattle.grade.specs.Intervals.{boxAt, zero, zeros, pieceGradient}
+use Rattle.grade.specs.InUse.{sum, difference}
 use Rattle.gyroid.specs.declared.Surface.{Surface}
 use Rattle.gyroid.specs.declared.Gyroid.{Gyroid}
 use Rattle.gyroid.specs.declared.Waves.{Waves}
 use Rattle.gyroid.specs.Turn.{symmetric}
-use Rattle.gyroid.specs.Jet.{waves, gradientAt}
-use Rattle.gyroid.specs.Residual.{centre, radii}
+use Rattle.gyroid.specs.Residual.{centre}
+use Rattle.gyroid.specs.InUse.{waves, gradientAt, radii}
 use Rattle.calls.specs.declared.Derivatives.{Derivatives}
 
 abbrev one : Float

@@ -5,14 +5,15 @@ use mathlib.Core.List.{List, [], _∷_}
 use lib.Ieee.{Float, binary64, add, sub}
 use Rattle.interval.specs.declared.Interval.{Interval}
 use Rattle.interval.specs.Step.{b64}
-use Rattle.interval.specs.Interval.{point, least, greatest, sum, product, quotient, square}
+use Rattle.interval.specs.Interval.{point, least, greatest, product, quotient, square}
 use Rattle.grade.specs.Intervals.{boxAt}
+use Rattle.grade.specs.InUse.{sum}
 use Rattle.gyroid.specs.declared.Gyroid.{Gyroid}
 use Rattle.gyroid.specs.declared.Jet.{Jet}
 use Rattle.gyroid.specs.declared.Residual.{Residual}
 use Rattle.gyroid.specs.declared.Residual.the-variants.{None}
-use Rattle.gyroid.specs.Jet.{minus, affineJet}
 use Rattle.gyroid.specs.Residual.{held}
+use Rattle.gyroid.specs.InUse.{minus, affineJet}
 use Rattle.calls.specs.declared.Corners.{Corners}
 use Rattle.calls.specs.Refusals.{corner}
 

@@ -7,13 +7,13 @@ use Rattle.grade.specs.Said.{found}
 use Rattle.gyroid.specs.declared.Description.{Description}
 use Rattle.gyroid.specs.declared.State.{State}
 use Rattle.gyroid.specs.Fits.{Accepted}
-use Rattle.gyroid.specs.Leaf.{leaf}
 use Rattle.gyroid.specs.Residual.{stateNumber}
-use Rattle.gyroid.specs.Admitted.{OfTicks}
+use Rattle.grade.specs.Holds.{OfTicks}
+use Rattle.gyroid.specs.InUse.{leaf}
 use Rattle.calls.specs.Calls.{boxStateCall}
 use Rattle.calls.proofs.TickLaws.{box-state-ticks}
 use Rattle.tree.specs.Box.{Box, Good, lows, highs}
-use Rattle.walk.specs.Walk.{stateAt}
+use Rattle.walk.specs.FunctionsInUse.{stateAt}
 use Rattle.walk.proofs.EndLaws.{lows-ticks, highs-ticks, ends-ordered, state-is}
 
 pub box-state-walked : (d : Description) → Accepted d → (b : Box) → Good b → (w : List Interval) → OfTicks (lows b) (highs b) w

@@ -5,6 +5,7 @@ use Prim.Native.Nat.{ℕ}
 use native.Mathlib.Omega.{arith}
 use lib.IntN.{ℤ}
 use lib.ListN.{length}
+use Rattle.grade.specs.InUse.{inUse}
 use Rattle.walk.proofs.SupposedLaws.{supposed-none}
 use Rattle.capi.specs.Lent.{description, wholePoint, lengths}
 use Rattle.capi.specs.Exports.{walkStatus, WalkSupposed}
@@ -16,4 +17,4 @@ module _ (ds ns : List ℤ) (D : ℤ) (len : ℕ) (s : WalkSupposed ds ns D len)
 
   pub supposed-status : walkStatus ds ns D len ≡ 0
   unfolding walkStatus
-  supposed-status = rw (lengths-right, supposed-none (description ds) (wholePoint ns 0) (wholePoint ns 3) D len (s .supposed)) refl
+  supposed-status = rw (lengths-right, supposed-none inUse (description ds) (wholePoint ns 0) (wholePoint ns 3) D len (s .supposed)) refl

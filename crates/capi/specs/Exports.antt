@@ -18,8 +18,7 @@ use Rattle.gyroid.specs.declared.Jet.{Jet}
 use Rattle.calls.specs.declared.Derivatives.{Derivatives}
 use Rattle.calls.specs.Calls as calls
 use Rattle.tree.specs.Box.{boxFrom}
-use Rattle.walk.specs.Walk.{walkNumber, walkTable}
-use Rattle.walk.specs.Demand.{Supposed, Demand}
+use Rattle.walk.specs.InUse.{walkNumber, walkTable, Supposed, Demand}
 use Rattle.capi.specs.Lent.{level, description, wholePoint, point, box, triangle, lengths, unless}
 
 -- ---- answers as rows of numbers

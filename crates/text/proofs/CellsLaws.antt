@@ -14,6 +14,7 @@ use Rattle.exact.proofs.Signed.{back}
 use Rattle.grade.specs.Grade.{at}
 use Rattle.grade.proofs.RefusalLaws.{refused-is, answer-is}
 use Rattle.table.specs.Table.{Mark}
+use Rattle.grade.specs.InUse.{inUse}
 use Rattle.walk.specs.Demand.{Every}
 use Rattle.walk.proofs.TableLaws.{InTree, Tells, tells}
 use Rattle.text.specs.declared.parse.Line.{Line}
@@ -37,7 +38,7 @@ tells-fit t ms e w = listing-fits t _ _ _ ms (w .told) (omega (arith, w .fits)) 
 
 fits : (ns : List ℤ) → numberOf ns (length freshTable) ≡ 0 → length (listing (tableOf ns freshTable)) ≤ 131072
 unfolding numberOf tableOf freshTable
-fits ns e = tells-fit _ _ (omega (arith, length-replicate {A = ℕ} 65536 0)) (tells (described ns) (lowsIn ns) (highsIn ns) (depthIn ns) freshTable e)
+fits ns e = tells-fit _ _ (omega (arith, length-replicate {A = ℕ} 65536 0)) (tells inUse (described ns) (lowsIn ns) (highsIn ns) (depthIn ns) freshTable e)
 
 -- ---- what is printed
 pub fresh : replicate 65536 0 ≡ freshTable

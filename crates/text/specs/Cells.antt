@@ -7,7 +7,7 @@ use lib.IntN.{ℤ, pos}
 use lib.ListN.{length, replicate}
 use Rattle.grade.specs.Grade.{at}
 use Rattle.gyroid.specs.declared.Description.{Description}
-use Rattle.walk.specs.Walk.{walkNumber, walkTable}
+use Rattle.walk.specs.InUse.{walkNumber, walkTable}
 use Rattle.text.specs.Line.{lineOf}
 use Rattle.text.specs.Listing.{refusedText, listing}
 

@@ -15,10 +15,11 @@ use Rattle.grade.specs.Grade.{at, ticks}
 use Rattle.grade.specs.Refusals.{refused, _orElse_}
 use Rattle.grade.proofs.Entries.{both, ticks-within}
 use Rattle.grade.proofs.RefusalLaws.{none-first, none-last, kept, neither}
+use Rattle.grade.specs.InUse.{inUse}
 use Rattle.gyroid.specs.declared.Description.{Description}
 use Rattle.gyroid.specs.declared.Gyroid.{Gyroid}
 use Rattle.gyroid.specs.Refusals.{refusal}
-use Rattle.gyroid.specs.Leaf.{leaf}
+use Rattle.gyroid.specs.InUse.{leaf}
 use Rattle.tree.specs.Box.{Box, Good, boxFrom, low, high, longest, volume}
 use Rattle.tree.specs.InTicks.{InTicks}
 use Rattle.tree.specs.Tree.{leaves}
@@ -27,8 +28,10 @@ use Rattle.tree.proofs.TickLaws.{ticks-good}
 use Rattle.tree.proofs.CountLaws.{length-cells}
 use Rattle.table.specs.Table.{headBytes, cellsBytes, tableBytes}
 use Rattle.table.proofs.Written.{written}
-use Rattle.walk.specs.Walk.{settled, cellsOf, evaluatedOf, solidOf, marksOf, tableOf, spans, depths}
-use Rattle.walk.specs.Walk.{entryRefusal, roomRefusal, roomTable, walkNumber, walkTable}
+use Rattle.walk.specs.Walk
+use Rattle.walk.specs.Walk.{spans, depths, entryRefusal}
+use Rattle.walk.specs.InUse.{roomRefusal, roomTable, walkNumber, walkTable}
+use Rattle.walk.specs.FunctionsInUse.{settled, cellsOf, evaluatedOf, solidOf, marksOf}
 use Rattle.walk.proofs.MarkLaws.{marks-leaves}
 
 -- ---- what the refusals before 13 leave
@@ -78,7 +81,7 @@ module _ (g : Gyroid) (D : ℕ) (b : Box) (len : ℕ) {total : ℕ} (cells-are :
 
   -- the cells outgrow the table
   pub room-refused : {z : List ℕ} → z ≡ replicate len 0 → len / 32 < total + 1 → (13 ≡ roomRefusal g D b len) × (z ≡ roomTable g D b len)
-  unfolding roomRefusal roomTable
+  unfolding Walk.roomRefusal Walk.roomTable
   room-refused ez h =
       let e = ap (λ (n : ℕ). ltb (len / 32) (n + 1)) counted ∙ lt-ltb (len / 32) (total + 1) h in
       (rw e, rw e ez)
@@ -87,16 +90,16 @@ module _ (g : Gyroid) (D : ℕ) (b : Box) (len : ℕ) {total : ℕ} (cells-are :
   pub room-done : {ev solid vacant : ℕ} {z h r : List ℕ} → total + 1 ≤ len / 32 → ev ≡ evaluatedOf g D b → solid ≡ solidOf g D b → vacant ≡ volume b - solid
       → z ≡ replicate len 0 → h ≡ sets z 0 (headBytes total ev solid vacant) → r ≡ sets h 32 (cellsBytes total 1 (marksOf g (cellsOf g D b)))
       → (0 ≡ roomRefusal g D b len) × (r ≡ roomTable g D b len)
-  unfolding roomRefusal roomTable tableOf
+  unfolding Walk.roomRefusal Walk.roomTable Walk.tableOf
   room-done {ev} {solid} {vacant} fits e1 e2 e3 ez eh er =
       let e = ap (λ (n : ℕ). ltb (len / 32) (n + 1)) counted ∙ le-ltb (len / 32) (total + 1) fits in
-      let w = written len total ev solid vacant (marksOf g (cellsOf g D b)) ez eh er (marks-leaves g D 0 b ∙ sym cells-are) (omega (arith, fits)) in
+      let w = written len total ev solid vacant (marksOf g (cellsOf g D b)) ez eh er (marks-leaves inUse g D 0 b ∙ sym cells-are) (omega (arith, fits)) in
       (rw e, rw e (w ∙ (λ i. tableBytes len (e1 i) (e2 i) ((e3 ∙ ap (λ (n : ℕ). volume b - n) e2) i) (marksOf g (cellsOf g D b)))))
 
 -- ---- what the call returns and leaves, by the refusals before 13
 module _ (d : Description) (lo hi : List ℤ) (D : ℤ) (t : List ℕ) {n : ℕ} (number : n ≡ entryRefusal (refusal d) lo hi D) where
   pub walk-refused : (n ≡ 0 → ⊥) → (n ≡ walkNumber d lo hi D (length t)) × (t ≡ walkTable d lo hi D t)
-  unfolding walkNumber walkTable
+  unfolding Walk.walkNumber Walk.walkTable
   walk-refused h =
       let e = ap (λ (k : ℕ). eqb k 0) (sym number) ∙ ne-eqb n 0 h in
       (rw e number, rw e)
@@ -104,7 +107,7 @@ module _ (d : Description) (lo hi : List ℤ) (D : ℤ) (t : List ℕ) {n : ℕ}
   pub walk-ran : n ≡ 0 → {r : ℕ} {u : List ℕ} → r ≡ roomRefusal (leaf d) (natAbs D) (boxFrom lo hi) (length t)
       → u ≡ roomTable (leaf d) (natAbs D) (boxFrom lo hi) (length t)
       → (r ≡ walkNumber d lo hi D (length t)) × (u ≡ walkTable d lo hi D t)
-  unfolding walkNumber walkTable
+  unfolding Walk.walkNumber Walk.walkTable
   walk-ran h p q =
       let e = ap (λ (k : ℕ). eqb k 0) (sym number) ∙ eq-eqb n 0 h in
       (rw e p, rw e q)

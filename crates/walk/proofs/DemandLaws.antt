@@ -10,6 +10,7 @@ use native.Mathlib.Nat.{two-pow-succ, zero-add}
 use lib.IntN.{ℤ}
 use lib.ListN.{length}
 use borrow.Author.Tests.{eq-eqb}
+use Rattle.interval.specs.Interval.{Arithmetic}
 use Rattle.gyroid.specs.declared.Description.{Description}
 use Rattle.gyroid.specs.declared.State.{State}
 use Rattle.gyroid.specs.declared.State.the-variants.{Inside, Outside, Unsettled}
@@ -68,100 +69,102 @@ number-below Unsettled = omega arith
 cube-stops : (s : State) (c : Bool) → s ≡ Unsettled → (isSettled s || c) ≡ true → c ≡ true
 cube-stops s c e t = subst (λ (r : State). (isSettled r || c) ≡ true) e t
 
-module _ (d : Description) (accepted : Accepted d) (D : ℕ) where
+module _ (ar : Arithmetic) (d : Description) (accepted : Accepted d) (D : ℕ) where
   -- ---- of one cell of the tree
-  module _ (c : Cell) (m : Stopped (settled (leaf d)) longest D c) where
-    settles : Settles d (lows (c .box)) (highs (c .box)) (stateAt (leaf d) (c .box))
+  module _ (c : Cell) (m : Stopped (settled ar (leaf ar d)) longest D c) where
+    settles : Settles d (lows (c .box)) (highs (c .box)) (stateAt ar (leaf ar d) (c .box))
     unfolding stateAt
-    settles = state-settles d accepted (lows (c .box)) (highs (c .box)) (lows-ticks (c .box) (m .good)) (highs-ticks (c .box) (m .good))
+    settles = state-settles ar d accepted (lows (c .box)) (highs (c .box)) (lows-ticks (c .box) (m .good)) (highs-ticks (c .box) (m .good))
 
-    below-zero : stateNumber (stateAt (leaf d) (c .box)) ≡ 1 → AllBelowZero d (c .box)
-    below-zero e = subst (Settles d (lows (c .box)) (highs (c .box))) (number-inside (stateAt (leaf d) (c .box)) e) settles
+    below-zero : stateNumber (stateAt ar (leaf ar d) (c .box)) ≡ 1 → AllBelowZero d (c .box)
+    below-zero e = subst (Settles d (lows (c .box)) (highs (c .box))) (number-inside (stateAt ar (leaf ar d) (c .box)) e) settles
 
-    above-zero : stateNumber (stateAt (leaf d) (c .box)) ≡ 2 → AllAboveZero d (c .box)
-    above-zero e = subst (Settles d (lows (c .box)) (highs (c .box))) (number-outside (stateAt (leaf d) (c .box)) e) settles
+    above-zero : stateNumber (stateAt ar (leaf ar d) (c .box)) ≡ 2 → AllAboveZero d (c .box)
+    above-zero e = subst (Settles d (lows (c .box)) (highs (c .box))) (number-outside (stateAt ar (leaf ar d) (c .box)) e) settles
 
-    undecided : stateNumber (stateAt (leaf d) (c .box)) ≡ 3 → Undecided d D c
+    undecided : stateNumber (stateAt ar (leaf ar d) (c .box)) ≡ 3 → Undecided ar d D c
     undecided e =
-        let u = number-unsettled (stateAt (leaf d) (c .box)) e in
-        record { not-settled = u; ended = ⊎-elim (λ k. inl k) (λ s. inr (cube-stops (stateAt (leaf d) (c .box)) (oneCube (c .box)) u s)) (m .why) }
+        let u = number-unsettled (stateAt ar (leaf ar d) (c .box)) e in
+        record { not-settled = u; ended = ⊎-elim (λ k. inl k) (λ s. inr (cube-stops (stateAt ar (leaf ar d) (c .box)) (oneCube (c .box)) u s)) (m .why) }
 
-    fits : Fits (markOf (leaf d) c)
-    fits = good-fits (markOf (leaf d) c) (number-below (stateAt (leaf d) (c .box))) (m .good)
+    fits : Fits (markOf ar (leaf ar d) c)
+    fits = good-fits (markOf ar (leaf ar d) c) (number-below (stateAt ar (leaf ar d) (c .box))) (m .good)
 
-  unsettled-number : (c : Cell) → Undecided d D c → stateNumber (stateAt (leaf d) (c .box)) ≡ 3
+  unsettled-number : (c : Cell) → Undecided ar d D c → stateNumber (stateAt ar (leaf ar d) (c .box)) ≡ 3
   unsettled-number c u = ap stateNumber (u .not-settled)
 
   -- ---- of the tree of a box
   module _ (shallow : D ≤ 24) (b : Box) (good : Good b) where
     abbrev cs : List Cell
-    cs = cellsOf (leaf d) D b
+    cs = cellsOf ar (leaf ar d) D b
 
     abbrev ms : List Mark
-    ms = marksOf (leaf d) cs
+    ms = marksOf ar (leaf ar d) cs
 
-    pub each : All (Stopped (settled (leaf d)) longest D) cs
-    each = subst (λ (k : ℕ). All (Stopped (settled (leaf d)) longest k) cs) (zero-add D) (stopped (settled (leaf d)) longest fair-longest D 0 b good)
+    pub each : All (Stopped (settled ar (leaf ar d)) longest D) cs
+    each = subst (λ (k : ℕ). All (Stopped (settled ar (leaf ar d)) longest k) cs) (zero-add D)
+        (stopped (settled ar (leaf ar d)) longest fair-longest D 0 b good)
 
-    all-fit : (cs : List Cell) → All (Stopped (settled (leaf d)) longest D) cs → AllFit (marksOf (leaf d) cs)
+    all-fit : (cs : List Cell) → All (Stopped (settled ar (leaf ar d)) longest D) cs → AllFit (marksOf ar (leaf ar d) cs)
     unfolding marksOf
     all-fit [] q = tt
     all-fit (c ∷ cs) q = (fits c (q .0), all-fit cs (q .1))
 
-    cells-many : length ms ≡ leaves (settled (leaf d)) longest D b
-    cells-many = marks-leaves (leaf d) D 0 b
+    cells-many : length ms ≡ leaves (settled ar (leaf ar d)) longest D b
+    cells-many = marks-leaves ar (leaf ar d) D 0 b
 
-    pub solid-most : solidOf (leaf d) D b ≤ volume b
-    solid-most = solid-le (inside (leaf d)) (settled (leaf d)) longest fair-longest D 0 b good
+    pub solid-most : solidOf ar (leaf ar d) D b ≤ volume b
+    solid-most = solid-le (inside ar (leaf ar d)) (settled ar (leaf ar d)) longest fair-longest D 0 b good
 
     pub read : (len : ℕ)
-        → Told (tableBytes len (evaluatedOf (leaf d) D b) (solidOf (leaf d) D b) (openOf (leaf d) D b) ms) (evaluatedOf (leaf d) D b)
-        (solidOf (leaf d) D b) (openOf (leaf d) D b) ms
+        → Told (tableBytes len (evaluatedOf ar (leaf ar d) D b) (solidOf ar (leaf ar d) D b) (openOf ar (leaf ar d) D b) ms) (evaluatedOf ar (leaf ar d) D b)
+        (solidOf ar (leaf ar d) D b) (openOf ar (leaf ar d) D b) ms
     read len =
         let v = volume-small b good in
-        told len (evaluatedOf (leaf d) D b) (solidOf (leaf d) D b) (openOf (leaf d) D b) ms (all-fit cs each)
-        (omega (arith, cells-many, leaves-small (settled (leaf d)) longest D b shallow)) (omega (arith, box-count-small (settled (leaf d)) longest D b shallow))
+        told len (evaluatedOf ar (leaf ar d) D b) (solidOf ar (leaf ar d) D b) (openOf ar (leaf ar d) D b) ms (all-fit cs each)
+        (omega (arith, cells-many, leaves-small (settled ar (leaf ar d)) longest D b shallow))
+        (omega (arith, box-count-small (settled ar (leaf ar d)) longest D b shallow))
         (omega (arith, solid-most, v)) (omega (arith, v))
 
     -- the tick cubes that a list of the tree's boxes holds
     covered : (x y z : ℤ) → holders x y z (markBoxes ms) ≡ cond (holdsCube x y z b) 1 0
-    covered x y z = ap (holders x y z) (mark-boxes-are (leaf d) cs) ∙ cover (settled (leaf d)) longest fair-longest x y z D 0 b good
+    covered x y z = ap (holders x y z) (mark-boxes-are ar (leaf ar d) cs) ∙ cover (settled ar (leaf ar d)) longest fair-longest x y z D 0 b good
 
     -- ---- what a table says whose reading this is
-    module _ (t : List ℕ) (r : Told t (evaluatedOf (leaf d) D b) (solidOf (leaf d) D b) (openOf (leaf d) D b) ms) where
+    module _ (t : List ℕ) (r : Told t (evaluatedOf ar (leaf ar d) D b) (solidOf ar (leaf ar d) D b) (openOf ar (leaf ar d) D b) ms) where
       holders-are : (x y z : ℤ) → holders x y z (markBoxes (marksIn t)) ≡ cond (holdsCube x y z b) 1 0
       holders-are x y z = ap (λ (l : List Mark). holders x y z (markBoxes l)) (r .marks-are) ∙ covered x y z
 
-      cells-read : cellsIn t ≡ leaves (settled (leaf d)) longest D b
+      cells-read : cellsIn t ≡ leaves (settled ar (leaf ar d)) longest D b
       cells-read = r .cells-are ∙ cells-many
 
-      says : Demand d b D t
+      says : Demand ar d b D t
       says = record {
         one-cell = λ x y z h. holders-are x y z ∙ rw h;
         no-cell = λ x y z h. holders-are x y z ∙ rw h;
-        inside = subst⁻¹ (Every (λ m. m .state ≡ 1 → AllBelowZero d (m .box))) (r .marks-are) (every (leaf d) _ _ below-zero cs each);
-        outside = subst⁻¹ (Every (λ m. m .state ≡ 2 → AllAboveZero d (m .box))) (r .marks-are) (every (leaf d) _ _ above-zero cs each);
-        unsettled = subst⁻¹ (λ (l : List Mark). Pairwise (λ m c. (m .state ≡ 3 → Undecided d D c) × (Undecided d D c → m .state ≡ 3)) l cs) (r .marks-are)
-            (pairwise (leaf d) _ _ (λ c m. (undecided c m, unsettled-number c)) cs each);
-        walk-order = subst⁻¹ (λ (l : List Mark). Pairwise (λ m c. m .box ≡ c .box) l cs) (r .marks-are) (pairwise (leaf d) _ _ (λ c m. refl) cs each);
+        inside = subst⁻¹ (Every (λ m. m .state ≡ 1 → AllBelowZero d (m .box))) (r .marks-are) (every ar (leaf ar d) _ _ below-zero cs each);
+        outside = subst⁻¹ (Every (λ m. m .state ≡ 2 → AllAboveZero d (m .box))) (r .marks-are) (every ar (leaf ar d) _ _ above-zero cs each);
+        unsettled = subst⁻¹ (λ (l : List Mark). Pairwise (λ m c. (m .state ≡ 3 → Undecided ar d D c) × (Undecided ar d D c → m .state ≡ 3)) l cs) (r .marks-are)
+            (pairwise ar (leaf ar d) _ _ (λ c m. (undecided c m, unsettled-number c)) cs each);
+        walk-order = subst⁻¹ (λ (l : List Mark). Pairwise (λ m c. m .box ≡ c .box) l cs) (r .marks-are) (pairwise ar (leaf ar d) _ _ (λ c m. refl) cs each);
         marked = subst⁻¹ (Every (λ m. (m .state ≡ 3 → ⊥) → (m .state ≡ 1) ⊎ (m .state ≡ 2))) (r .marks-are)
-            (every (leaf d) _ _ (λ c m. number-other (stateAt (leaf d) (c .box))) cs each);
-        evaluated = omega (arith, r .evaluated-is, cells-read, box-count-leaves (settled (leaf d)) longest D b);
+            (every ar (leaf ar d) _ _ (λ c m. number-other (stateAt ar (leaf ar d) (c .box))) cs each);
+        evaluated = omega (arith, r .evaluated-is, cells-read, box-count-leaves (settled ar (leaf ar d)) longest D b);
         evaluated-most = omega (
           arith,
           r .evaluated-is,
-          box-count-leaves (settled (leaf d)) longest D b,
-          leaves-le (settled (leaf d)) longest D b,
+          box-count-leaves (settled ar (leaf ar d)) longest D b,
+          leaves-le (settled ar (leaf ar d)) longest D b,
           two-pow-succ D,
         );
         evaluated-tree = r .evaluated-is;
         first = r .first-is;
-        ends = r .ends (omega (arith, cells-many, leaves-least (settled (leaf d)) longest D b));
+        ends = r .ends (omega (arith, cells-many, leaves-least (settled ar (leaf ar d)) longest D b));
         solid = r .solid-is;
         rest = omega (arith, r .solid-is, r .open-is, solid-most);
       }
 
     -- DEMAND 3 of what an accepted walk leaves
-    pub demand : (len : ℕ) → roomRefusal (leaf d) D b len ≡ 0 → {t : List ℕ} → t ≡ roomTable (leaf d) D b len → Demand d b D t
+    pub demand : (len : ℕ) → roomRefusal ar (leaf ar d) D b len ≡ 0 → {t : List ℕ} → t ≡ roomTable ar (leaf ar d) D b len → Demand ar d b D t
     unfolding roomTable tableOf
-    demand len room e = subst⁻¹ (Demand d b D) (e ∙ rw (eq-eqb _ 0 room)) (says _ (read len))
+    demand len room e = subst⁻¹ (Demand ar d b D) (e ∙ rw (eq-eqb _ 0 room)) (says _ (read len))

@@ -13,13 +13,14 @@ use Rattle.exact.proofs.Size.{within-low, within-high}
 use Rattle.grade.specs.Grade.{tick, ticks}
 use Rattle.grade.specs.Refusals.{above}
 use Rattle.gyroid.specs.declared.Gyroid.{Gyroid}
-use Rattle.gyroid.specs.Residual.{boxState}
+use Rattle.gyroid.specs.InUse.{boxState}
 use Rattle.gyroid.specs.Admitted.{tickBox}
 use Rattle.tree.specs.declared.Axis.{Axis}
 use Rattle.tree.specs.declared.Axis.the-variants.{X, Y, Z}
 use Rattle.tree.specs.Box.{Box, Good, low, high, lows, highs}
 use Rattle.tree.proofs.TickLaws.{good-ticks}
-use Rattle.walk.specs.Walk.{stateAt}
+use Rattle.walk.specs.Walk
+use Rattle.walk.specs.FunctionsInUse.{stateAt}
 
 -- ---- the limits
 end-tick : {z : ℤ} → Within 1048576 z → T (tick z)
@@ -52,5 +53,5 @@ module _ (b : Box) (g : Good b) where
 
 -- ---- the state
 pub state-is : (g : Gyroid) (b : Box) → stateAt g b ≡ boxState g (tickBox (lows b) (highs b))
-unfolding stateAt
+unfolding Walk.stateAt
 state-is g b = refl

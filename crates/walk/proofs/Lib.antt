@@ -8,3 +8,5 @@ pub mod DemandLaws
 -- what demand 3 supposes is what no refusal leaves, both ways
 pub mod SupposedLaws
 pub mod TableLaws
+-- demand 3 of the whole call, under either arithmetic
+pub mod EitherLaws

@@ -3,10 +3,11 @@
 use mathlib.Core.Path.{_≡_, sym, ap, _∙_, subst}
 use Prim.Native.Nat.{_≤_}
 use Rattle.interval.specs.Nearest.{nearest}
+use Rattle.grade.specs.InUse.{inUse}
 use Rattle.gyroid.specs.declared.Gyroid.{Gyroid}
 use Rattle.gyroid.specs.declared.Part.{Part}
 use Rattle.gyroid.specs.declared.State.{State}
-use Rattle.gyroid.specs.Parts.{part, joined}
+use Rattle.gyroid.specs.FunctionsInUse.{part, joined}
 use Rattle.gyroid.specs.Residual.{stateOf}
 use Rattle.gyroid.specs.Admitted.{tickBox}
 use Rattle.gyroid.proofs.PartLaws.{joined-state}
@@ -20,7 +21,8 @@ use Rattle.tree.proofs.BesideLaws.{lower-beside, upper-beside}
 use Rattle.tree.specs.Beside.{Shared, Beside}
 use Rattle.walk.specs.declared.Parts.{Parts}
 use Rattle.walk.specs.declared.Node.{Node}
-use Rattle.walk.specs.Walk.{stateAt}
+use Rattle.walk.specs.Walk
+use Rattle.walk.specs.FunctionsInUse.{stateAt}
 use Rattle.walk.specs.Carried.{side, partOf, partsOf, renewed, Stands}
 
 -- an axis of a box reads the box's ends on that axis alone
@@ -47,8 +49,8 @@ module _ (g : Gyroid) where
   renewed-is Z b c s = λ i. record { x = part g 0 (same-side X b c (s .0) i); y = part g 1 (same-side Y b c (s .1) i); z = partOf g Z c }
 
   pub parts-state : (b : Box) (p : Parts) → p ≡ partsOf g b → stateOf (joined g (p .x) (p .y) (p .z)) ≡ stateAt g b
-  unfolding partsOf stateAt
-  parts-state b p e = ap (λ (q : Parts). stateOf (joined g (q .x) (q .y) (q .z))) e ∙ joined-state g (tickBox (lows b) (highs b))
+  unfolding partsOf Walk.stateAt
+  parts-state b p e = ap (λ (q : Parts). stateOf (joined g (q .x) (q .y) (q .z))) e ∙ joined-state inUse g (tickBox (lows b) (highs b))
 
   -- a box with its own parts and the state that they give it
   pub own-parts : (b : ShiftedBox) (p : Parts) (s : State) → Good (boxOf b) → p ≡ partsOf g (boxOf b) → s ≡ stateOf (joined g (p .x) (p .y) (p .z))

@@ -13,7 +13,8 @@ use Rattle.tree.specs.Tree.{Cell, stops, cells, leaves, boxCount}
 use Rattle.tree.proofs.StepLaws.{IsCell, cell-deep, cell-stops, wide, halved}
 use Rattle.tree.proofs.LongestLaws.{fair-longest}
 use Rattle.walk.specs.declared.Step.{Step}
-use Rattle.walk.specs.Walk.{stateAt, isSettled, settled}
+use Rattle.walk.specs.Walk.{isSettled}
+use Rattle.walk.specs.FunctionsInUse.{stateAt, settled}
 use Rattle.walk.specs.Carried.{stepOf}
 
 true-false : {A : Type 0} → true ≡ false → A

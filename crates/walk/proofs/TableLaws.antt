@@ -8,6 +8,7 @@ use lib.Dec.{ltb, nltb→le}
 use lib.IntN.{ℤ, natAbs}
 use lib.ListN.{length}
 use borrow.Author.Tests.{eq-eqb}
+use Rattle.interval.specs.Interval.{Arithmetic}
 use Rattle.grade.proofs.RefusalLaws.{none-last, neither}
 use Rattle.gyroid.specs.declared.Description.{Description}
 use Rattle.gyroid.specs.declared.Gyroid.{Gyroid}
@@ -49,16 +50,16 @@ number-most Outside = omega arith
 number-most Unsettled = omega arith
 
 -- the table behind all refusals
-room-left : (g : Gyroid) (D : ℕ) (b : Box) (len : ℕ) → roomRefusal g D b len ≡ 0 → length (marksOf g (cellsOf g D b)) + 1 ≤ len / 32
+room-left : (ar : Arithmetic) (g : Gyroid) (D : ℕ) (b : Box) (len : ℕ) → roomRefusal ar g D b len ≡ 0 → length (marksOf ar g (cellsOf ar g D b)) + 1 ≤ len / 32
 unfolding roomRefusal
-room-left g D b len e =
+room-left ar g D b len e =
     omega (
       arith,
-      length-marks g (cellsOf g D b),
-      nltb→le (len / 32) (length (cellsOf g D b) + 1) (none-last (ltb (len / 32) (length (cellsOf g D b) + 1)) 12 e),
+      length-marks ar g (cellsOf ar g D b),
+      nltb→le (len / 32) (length (cellsOf ar g D b) + 1) (none-last (ltb (len / 32) (length (cellsOf ar g D b) + 1)) 12 e),
     )
 
-module _ (d : Description) (lo hi : List ℤ) (D : ℤ) (t : List ℕ) where
+module _ (ar : Arithmetic) (d : Description) (lo hi : List ℤ) (D : ℤ) (t : List ℕ) where
   abbrev b : Box
   b = boxFrom lo hi
 
@@ -66,27 +67,31 @@ module _ (d : Description) (lo hi : List ℤ) (D : ℤ) (t : List ℕ) where
   depth = natAbs D
 
   abbrev ms : List Mark
-  ms = marksOf (leaf d) (cellsOf (leaf d) depth b)
+  ms = marksOf ar (leaf ar d) (cellsOf ar (leaf ar d) depth b)
 
-  table-is : entryRefusal (refusal d) lo hi D ≡ 0 → roomRefusal (leaf d) depth b (length t) ≡ 0 → walkTable d lo hi D t ≡ tableOf (leaf d) depth b (length t)
+  table-is : entryRefusal (refusal d) lo hi D ≡ 0 → roomRefusal ar (leaf ar d) depth b (length t) ≡ 0
+      → walkTable ar d lo hi D t ≡ tableOf ar (leaf ar d) depth b (length t)
   unfolding walkTable roomTable
   table-is e r = rw (eq-eqb _ 0 e, eq-eqb _ 0 r)
 
-  pub tells : walkNumber d lo hi D (length t) ≡ 0
-      → Tells (length t / 32) (walkTable d lo hi D t) (evaluatedOf (leaf d) depth b) (solidOf (leaf d) depth b) (openOf (leaf d) depth b) ms
+  pub tells : walkNumber ar d lo hi D (length t) ≡ 0
+      → Tells (length t / 32) (walkTable ar d lo hi D t) (evaluatedOf ar (leaf ar d) depth b) (solidOf ar (leaf ar d) depth b)
+      (openOf ar (leaf ar d) depth b) ms
   unfolding walkNumber tableOf
   tells none =
-      let (e, r) = neither (entryRefusal (refusal d) lo hi D) (roomRefusal (leaf d) depth b (length t)) none in
+      let (e, r) = neither (entryRefusal (refusal d) lo hi D) (roomRefusal ar (leaf ar d) depth b (length t)) none in
       let h = entered (refusal d) lo hi D e in
       let accepted : Accepted d = record { none = h .described } in
       let v = volume-small b (h .good) in
       record {
-        told = subst⁻¹ (λ (u : List ℕ). Told u (evaluatedOf (leaf d) depth b) (solidOf (leaf d) depth b) (openOf (leaf d) depth b) ms) (table-is e r)
-            (read d accepted depth (h .depth-most) b (h .good) (length t));
-        fits = room-left (leaf d) depth b (length t) r;
-        evaluated-small = omega (arith, box-count-small (settled (leaf d)) longest depth b (h .depth-most));
-        solid-small = omega (arith, v, solid-most d accepted depth (h .depth-most) b (h .good));
+        told = subst⁻¹ (λ (u : List ℕ). Told u (evaluatedOf ar (leaf ar d) depth b) (solidOf ar (leaf ar d) depth b)
+            (openOf ar (leaf ar d) depth b) ms) (table-is e r)
+            (read ar d accepted depth (h .depth-most) b (h .good) (length t));
+        fits = room-left ar (leaf ar d) depth b (length t) r;
+        evaluated-small = omega (arith, box-count-small (settled ar (leaf ar d)) longest depth b (h .depth-most));
+        solid-small = omega (arith, v, solid-most ar d accepted depth (h .depth-most) b (h .good));
         open-small = omega (arith, v);
-        marks = every (leaf d) InTree _ (λ c m. record { state = number-most (stateAt (leaf d) (c .box)); good = m .good }) (cellsOf (leaf d) depth b)
-            (each d accepted depth (h .depth-most) b (h .good));
+        marks = every ar (leaf ar d) InTree _ (λ c m. record { state = number-most (stateAt ar (leaf ar d) (c .box)); good = m .good })
+            (cellsOf ar (leaf ar d) depth b)
+            (each ar d accepted depth (h .depth-most) b (h .good));
       }

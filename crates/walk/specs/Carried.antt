@@ -9,14 +9,15 @@ use Rattle.interval.specs.Nearest.{nearest}
 use Rattle.gyroid.specs.declared.Gyroid.{Gyroid}
 use Rattle.gyroid.specs.declared.Part.{Part}
 use Rattle.gyroid.specs.declared.State.{State}
-use Rattle.gyroid.specs.Parts.{part}
+use Rattle.gyroid.specs.FunctionsInUse.{part}
 use Rattle.tree.specs.declared.Axis.{Axis}
 use Rattle.tree.specs.declared.Axis.the-variants.{X, Y, Z}
 use Rattle.tree.specs.Box.{Box, Good, low, high, longest, oneCube, boxOf}
 use Rattle.walk.specs.declared.Parts.{Parts}
 use Rattle.walk.specs.declared.Node.{Node}
 use Rattle.walk.specs.declared.Step.{Step}
-use Rattle.walk.specs.Walk.{stateAt, isSettled}
+use Rattle.walk.specs.Walk.{isSettled}
+use Rattle.walk.specs.FunctionsInUse.{stateAt}
 
 -- a box along one axis, "its ends n/1024 exactly"
 abbrev pub side : Axis → Box → Interval

@@ -1,6 +1,7 @@
--- DEMAND 3 of the table that the walk leaves: what it supposes and what it says, a field for each part of its sentences, which stand in
--- quotes. "Demand 3 reads the cells, their states and slot 0's numbers of cells and evaluated from the table's bytes after the walk. The rest
--- comes from description, box and D alone." Coordinates are signed ticks and points rational. Definitions only; assumes nothing.
+-- DEMAND 3 of the table that the walk leaves, under either arithmetic: what it supposes and what it says, a field for each part of its
+-- sentences, which stand in quotes. "Demand 3 reads the cells, their states and slot 0's numbers of cells and evaluated from the table's bytes
+-- after the walk. The rest comes from description, box and D alone." Coordinates are signed ticks and points rational. Definitions only; assumes
+-- nothing.
 use mathlib.Core.Path.{_≡_}
 use mathlib.Core.Bool.{true, false}
 use mathlib.Core.List.{List, [], _∷_}
@@ -11,6 +12,7 @@ use lib.IntN.{ℤ, pos, natAbs}
 use lib.ListN.{length}
 use lib.Signed.{_≤ℤ_, _<ℤ_}
 use Rattle.exact.specs.Fraction.{zeroF, _<F_}
+use Rattle.interval.specs.Interval.{Arithmetic}
 use Rattle.grade.specs.Grade.{Point, ticks}
 use Rattle.grade.specs.Holds.{InBox}
 use Rattle.gyroid.specs.declared.Description.{Description}
@@ -42,22 +44,6 @@ unfoldable pub markBoxes : List Mark → List Box
 markBoxes [] = []
 markBoxes (m ∷ ms) = m .box ∷ markBoxes ms
 
--- what is supposed of a description, of the lows and highs of a box, of a depth and of the length of a table
-pub record Supposed (d : Description) (lo hi : List ℤ) (D : ℤ) (len : ℕ) : Type 0 where
-  -- "Let a description be accepted,
-  pub accepted : refusal d ≡ 0
-  -- a box of whole ticks keep document 01's limits
-  pub lows : T (ticks lo)
-  pub highs : T (ticks hi)
-  -- with every span at least 1,
-  pub spans : (a : Axis) → low a (boxFrom lo hi) <ℤ high a (boxFrom lo hi)
-  -- and the depth D be 0
-  pub depth-least : pos 0 ≤ℤ D
-  -- to 24."
-  pub depth-most : D ≤ℤ pos 24
-  -- "Let the table hold its head and all the cells", in slots of 32 bytes, "whatever its bytes were before"
-  pub room : 32 * (1 + length (cellsOf (leaf d) (natAbs D) (boxFrom lo hi))) ≤ len
-
 module _ (d : Description) where
   -- "its admitted residuals are those with its own centre and half-widths", at a rational point of a cell, "faces included"
   abbrev pub AllBelowZero : Box → Type 0
@@ -66,33 +52,51 @@ module _ (d : Description) where
   abbrev pub AllAboveZero : Box → Type 0
   AllAboveZero b = (p : Point) → InBox (lows b) (highs b) p → (h : Chosen d (lows b) (highs b)) → zeroF <F admitted d (lows b) (highs b) h p
 
-  -- the residual does not settle the cell's box, "and it stands at depth D or is one tick cube"
-  pub record Undecided (D : ℕ) (c : Cell) : Type 0 where
-    pub not-settled : stateAt (leaf d) (c .box) ≡ Unsettled
-    pub ended : (c .depth ≡ D) ⊎ (oneCube (c .box) ≡ true)
+module _ (ar : Arithmetic) where
+  -- what is supposed of a description, of the lows and highs of a box, of a depth and of the length of a table
+  pub record Supposed (d : Description) (lo hi : List ℤ) (D : ℤ) (len : ℕ) : Type 0 where
+    -- "Let a description be accepted,
+    pub accepted : refusal d ≡ 0
+    -- a box of whole ticks keep document 01's limits
+    pub lows : T (ticks lo)
+    pub highs : T (ticks hi)
+    -- with every span at least 1,
+    pub spans : (a : Axis) → low a (boxFrom lo hi) <ℤ high a (boxFrom lo hi)
+    -- and the depth D be 0
+    pub depth-least : pos 0 ≤ℤ D
+    -- to 24."
+    pub depth-most : D ≤ℤ pos 24
+    -- "Let the table hold its head and all the cells", in slots of 32 bytes, "whatever its bytes were before"
+    pub room : 32 * (1 + length (cellsOf ar (leaf ar d) (natAbs D) (boxFrom lo hi))) ≤ len
 
-  -- of the box b, the depth D and the bytes t
-  pub record Demand (b : Box) (D : ℕ) (t : List ℕ) : Type 0 where
-    -- "Each tick cube of the box is in exactly one cell,
-    pub one-cell : (x y z : ℤ) → holdsCube x y z b ≡ true → holders x y z (markBoxes (marksIn t)) ≡ 1
-    -- and no cube outside the box is in any."
-    pub no-cell : (x y z : ℤ) → holdsCube x y z b ≡ false → holders x y z (markBoxes (marksIn t)) ≡ 0
-    -- "At every rational point of a cell marked inside, all of the cell's admitted residuals are below zero."
-    pub inside : Every (λ m. m .state ≡ 1 → AllBelowZero (m .box)) (marksIn t)
-    -- "At every rational point of one marked outside, all are above zero."
-    pub outside : Every (λ m. m .state ≡ 2 → AllAboveZero (m .box)) (marksIn t)
-    -- "A cell is unsettled exactly when demand 2's residual doesn't settle its box and it stands at depth D or is one tick cube."
-    pub unsettled : Pairwise (λ m c. (m .state ≡ 3 → Undecided D c) × (Undecided D c → m .state ≡ 3)) (marksIn t) (cellsOf (leaf d) D b)
-    -- "The table's cells are the tree's, in walk order,
-    pub walk-order : Pairwise (λ m c. m .box ≡ c .box) (marksIn t) (cellsOf (leaf d) D b)
-    -- and one that isn't unsettled is marked inside or outside."
-    pub marked : Every (λ m. (m .state ≡ 3 → ⊥) → (m .state ≡ 1) ⊎ (m .state ≡ 2)) (marksIn t)
-    -- "Evaluated = 2 × cells − 1, at most 2^(D+1) − 1", and it is the number of boxes in the tree
-    pub evaluated : evaluatedIn t + 1 ≡ 2 * cellsIn t
-    pub evaluated-most : evaluatedIn t + 1 ≤ 2 ^ suc D
-    pub evaluated-tree : evaluatedIn t ≡ evaluatedOf (leaf d) D b
-    -- the chain starts at slot 1 and ends after the last cell; the volumes of slot 0
-    pub first : firstIn t ≡ 1
-    pub ends : chainEnd (cellsIn t) t (firstIn t) ≡ 0
-    pub solid : solidIn t ≡ solidOf (leaf d) D b
-    pub rest : solidIn t + openIn t ≡ volume b
+  module _ (d : Description) where
+    -- the residual does not settle the cell's box, "and it stands at depth D or is one tick cube"
+    pub record Undecided (D : ℕ) (c : Cell) : Type 0 where
+      pub not-settled : stateAt ar (leaf ar d) (c .box) ≡ Unsettled
+      pub ended : (c .depth ≡ D) ⊎ (oneCube (c .box) ≡ true)
+
+    -- of the box b, the depth D and the bytes t
+    pub record Demand (b : Box) (D : ℕ) (t : List ℕ) : Type 0 where
+      -- "Each tick cube of the box is in exactly one cell,
+      pub one-cell : (x y z : ℤ) → holdsCube x y z b ≡ true → holders x y z (markBoxes (marksIn t)) ≡ 1
+      -- and no cube outside the box is in any."
+      pub no-cell : (x y z : ℤ) → holdsCube x y z b ≡ false → holders x y z (markBoxes (marksIn t)) ≡ 0
+      -- "At every rational point of a cell marked inside, all of the cell's admitted residuals are below zero."
+      pub inside : Every (λ m. m .state ≡ 1 → AllBelowZero d (m .box)) (marksIn t)
+      -- "At every rational point of one marked outside, all are above zero."
+      pub outside : Every (λ m. m .state ≡ 2 → AllAboveZero d (m .box)) (marksIn t)
+      -- "A cell is unsettled exactly when demand 2's residual doesn't settle its box and it stands at depth D or is one tick cube."
+      pub unsettled : Pairwise (λ m c. (m .state ≡ 3 → Undecided D c) × (Undecided D c → m .state ≡ 3)) (marksIn t) (cellsOf ar (leaf ar d) D b)
+      -- "The table's cells are the tree's, in walk order,
+      pub walk-order : Pairwise (λ m c. m .box ≡ c .box) (marksIn t) (cellsOf ar (leaf ar d) D b)
+      -- and one that isn't unsettled is marked inside or outside."
+      pub marked : Every (λ m. (m .state ≡ 3 → ⊥) → (m .state ≡ 1) ⊎ (m .state ≡ 2)) (marksIn t)
+      -- "Evaluated = 2 × cells − 1, at most 2^(D+1) − 1", and it is the number of boxes in the tree
+      pub evaluated : evaluatedIn t + 1 ≡ 2 * cellsIn t
+      pub evaluated-most : evaluatedIn t + 1 ≤ 2 ^ suc D
+      pub evaluated-tree : evaluatedIn t ≡ evaluatedOf ar (leaf ar d) D b
+      -- the chain starts at slot 1 and ends after the last cell; the volumes of slot 0
+      pub first : firstIn t ≡ 1
+      pub ends : chainEnd (cellsIn t) t (firstIn t) ≡ 0
+      pub solid : solidIn t ≡ solidOf ar (leaf ar d) D b
+      pub rest : solidIn t + openIn t ≡ volume b

@@ -1,3 +1,6 @@
 pub mod Walk
 pub mod Demand
 pub mod Carried
+-- both at the arithmetic in use
+pub mod InUse
+pub mod FunctionsInUse

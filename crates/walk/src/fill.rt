@@ -6,7 +6,7 @@ ghost use lib.Seq.{sets};
 ghost use Rattle.table.specs.Table.{cellsBytes};
 ghost use Rattle.tree.specs.Box.{boxOf, longest};
 ghost use Rattle.tree.specs.Tree.{leaves, cells};
-ghost use Rattle.walk.specs.Walk.{settled, marksOf};
+ghost use Rattle.walk.specs.FunctionsInUse.{settled, marksOf};
 ghost use Rattle.walk.specs.Carried.{Stands};
 use crate::Node;
 use crate::Step;

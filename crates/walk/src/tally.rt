@@ -3,7 +3,7 @@ ghost use mathlib.Core.Path.{_≡_};
 ghost use Prim.Native.Nat.{ℕ, _≤_};
 ghost use Rattle.tree.specs.Box.{boxOf, longest};
 ghost use Rattle.tree.specs.Tree.{leaves, boxCount, cells, volumeOf};
-ghost use Rattle.walk.specs.Walk.{settled, inside};
+ghost use Rattle.walk.specs.FunctionsInUse.{settled, inside};
 ghost use Rattle.walk.specs.Carried.{Stands};
 use crate::Counted;
 use crate::Node;

@@ -13,8 +13,7 @@ use mir.Val.{toZ, ofZ, SFits}
 use Rattle.exact.proofs.Signed.{back}
 use Rattle.gyroid.specs.declared.Description.{Description}
 use Rattle.tree.specs.Box.{boxFrom}
-use Rattle.walk.specs.Walk.{walkNumber, walkTable}
-use Rattle.walk.specs.Demand.{Supposed, Demand}
+use Rattle.walk.specs.InUse.{walkNumber, walkTable, Supposed, Demand}
 use Rattle.capi.specs.Lent.{description, wholePoint, lengths}
 use Rattle.capi.specs.Exports.{walkStatus, walkLeft, WalkSupposed, WalkDemand}
 use Rattle.capi.proofs.LengthLaws.{sized, holds}

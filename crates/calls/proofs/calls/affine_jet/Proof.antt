@@ -3,7 +3,8 @@ use mathlib.Core.Path.{sym, ap, ap₂, _∙_}
 use borrow.Author.Needs.{needs}
 use Rattle.grade.specs.Refusals.{_orElse_}
 use Rattle.grade.proofs.RefusalLaws.{neither, refused-is, answer-is}
-use Rattle.gyroid.specs.Jet.{noJet, affineJet}
+use Rattle.gyroid.specs.Jet.{noJet}
+use Rattle.gyroid.specs.InUse.{affineJet}
 use Rattle.gyroid.proofs.LeafLaws.{number-is, leaf-is}
 use Rattle.calls.specs.Calls.{affineJetCall}
 use Rattle.calls.proofs.calls.affine_jet.Statement.{statement}

@@ -7,7 +7,7 @@ use Rattle.grade.proofs.RefusalLaws.{neither, refused-is, answer-is}
 use Rattle.grade.specs.Said.{found, refusing}
 use Rattle.gyroid.specs.declared.State.{State}
 use Rattle.gyroid.specs.Residual.{stateNumber}
-use Rattle.gyroid.specs.Residual.{boxState}
+use Rattle.gyroid.specs.InUse.{boxState}
 use Rattle.gyroid.proofs.LeafLaws.{number-is, leaf-is}
 use Rattle.calls.specs.declared.StateAnswer.{StateAnswer}
 use Rattle.calls.specs.Calls.{StateSettles}

@@ -4,7 +4,7 @@ use borrow.Author.Needs.{needs}
 use Rattle.grade.specs.Refusals.{_orElse_}
 use Rattle.grade.proofs.RefusalLaws.{neither, refused-is, answer-is}
 use Rattle.grade.specs.Said.{refusing}
-use Rattle.gyroid.specs.Leaf.{leaf}
+use Rattle.gyroid.specs.InUse.{leaf}
 use Rattle.gyroid.proofs.LeafLaws.{number-is, leaf-is}
 use Rattle.calls.specs.Calls.{enclosureSaid, residualAnswer, facetResidualCall}
 use Rattle.calls.specs.Facet.{facetResidual}

@@ -4,8 +4,7 @@ use borrow.Author.Needs.{needs}
 use Rattle.grade.specs.Refusals.{_orElse_}
 use Rattle.grade.proofs.RefusalLaws.{neither, refused-is, answer-is}
 use Rattle.grade.specs.Said.{refusing}
-use Rattle.gyroid.specs.Leaf.{leaf}
-use Rattle.gyroid.specs.Residual.{residual}
+use Rattle.gyroid.specs.InUse.{leaf, residual}
 use Rattle.gyroid.proofs.LeafLaws.{number-is, leaf-is}
 use Rattle.calls.specs.Calls.{enclosureSaid, residualAnswer, EnclosureHolds}
 use Rattle.calls.proofs.CallLaws.{residual-said, residual-rows, enclosure-holds}

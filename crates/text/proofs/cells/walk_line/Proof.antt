@@ -1,7 +1,7 @@
 -- The walk of what the line describes. Assumes nothing.
 use mathlib.Core.Path.{_∙_}
 use lib.ListN.{length}
-use Rattle.walk.specs.Walk.{walkNumber, walkTable}
+use Rattle.walk.specs.InUse.{walkNumber, walkTable}
 use Rattle.text.specs.Cells.{numberOf, tableOf}
 use Rattle.text.proofs.CellsLaws.{entry}
 use borrow.Author.Needs.{needs}

@@ -6,7 +6,7 @@ use Rattle.interval.specs.declared.Interval.{Interval}
 use Rattle.interval.specs.Nearest.{nearest}
 use Rattle.gyroid.specs.declared.Gyroid.{Gyroid}
 use Rattle.gyroid.specs.declared.Part.{Part}
-use Rattle.gyroid.specs.Parts.{part}
+use Rattle.gyroid.specs.FunctionsInUse.{part}
 use Rattle.tree.specs.declared.ShiftedBox.{ShiftedBox}
 use Rattle.tree.specs.Box.{unshifted, boxOf}
 use Rattle.tree.proofs.ShiftedLaws.{good-shifted}

@@ -4,7 +4,7 @@ use native.Mathlib.Omega.{arith}
 use borrow.Author.Needs.{needs}
 use Rattle.gyroid.specs.declared.Gyroid.{Gyroid}
 use Rattle.gyroid.specs.declared.Part.{Part}
-use Rattle.gyroid.specs.Parts.{part}
+use Rattle.gyroid.specs.FunctionsInUse.{part}
 use Rattle.interval.specs.declared.Interval.{Interval}
 use Rattle.interval.specs.Nearest.{nearest}
 use Rattle.tree.specs.declared.Axis.{Axis}

@@ -8,7 +8,7 @@ use Rattle.tree.specs.Box.{boxOf, longest}
 use Rattle.tree.proofs.CountLaws.{leaves-small}
 use Rattle.tree.proofs.LongestLaws.{fair-longest}
 use Rattle.tree.proofs.SolidLaws.{solid-le}
-use Rattle.walk.specs.Walk.{settled, inside}
+use Rattle.walk.specs.FunctionsInUse.{settled, inside}
 use Rattle.walk.specs.Carried.{Stands}
 use Rattle.walk.proofs.PartLaws.{own-parts}
 use Rattle.walk.proofs.CallLaws.{room-refused, room-done}

@@ -1,5 +1,5 @@
 -- The refusals before 13, then the walk; demand 3 of the table that it leaves. Assumes nothing.
-use mathlib.Core.Path.{_≡_, sym, ap, _∙_, subst, subst⁻¹}
+use mathlib.Core.Path.{_≡_, sym, ap, _∙_, subst⁻¹}
 use mathlib.Core.List.{List}
 use Prim.Native.Nat.{ℕ, _≤_}
 use native.Mathlib.Omega.{arith}
@@ -15,11 +15,13 @@ use Rattle.gyroid.specs.declared.Compiled.{Compiled}
 use Rattle.gyroid.specs.declared.Description.{Description}
 use Rattle.gyroid.specs.Refusals.{refusal}
 use Rattle.gyroid.specs.Fits.{Accepted}
-use Rattle.gyroid.specs.Leaf.{leaf}
-use Rattle.gyroid.specs.Constructors.{certified}
+use Rattle.gyroid.specs.InUse.{leaf}
+use Rattle.gyroid.specs.FunctionsInUse.{certified}
 use Rattle.gyroid.proofs.LeafLaws.{number-is, leaf-is}
 use Rattle.tree.specs.Box.{Box, Good, boxFrom}
-use Rattle.walk.specs.Walk.{entryRefusal, roomRefusal, roomTable}
+use Rattle.walk.specs.Walk.{entryRefusal}
+use Rattle.grade.specs.InUse.{inUse}
+use Rattle.walk.specs.InUse.{roomRefusal, roomTable}
 use Rattle.walk.proofs.CallLaws.{Entered, entered, walk-refused, walk-ran}
 use Rattle.walk.proofs.DemandLaws.{demand}
 use Rattle.walk.proofs.SupposedLaws.{entry-none, room-none}
@@ -68,7 +70,7 @@ returns c =
     let a = start (c .before) .args in
     let n = numbered (c .before) in
     let w = walk-refused (a .description) (a .lo) (a .hi) (a .depth) (a .table .now) n (c .if1 .taken) in
-    (w .0, (w .1, λ h. absurd (c .if1 .taken (n ∙ entry-none (a .description) (a .lo) (a .hi) (a .depth) (length (a .table .now)) h))))
+    (w .0, (w .1, λ h. absurd (c .if1 .taken (n ∙ entry-none inUse (a .description) (a .lo) (a .hi) (a .depth) (length (a .table .now)) h))))
 
 of-requires : tie.Need-of-requires
 of-requires c κs = passed (c .before) .box
@@ -106,7 +108,7 @@ returns-2 c =
     let left = same-table d lo hi len (s .fits .depth) made (o .of .ensures) t (u .run .ensures .1) in
     let w = walk-ran d lo hi D (s .args .table .now) (numbered (e .before)) (e .if1 .left) r left in
     let accepted : Accepted d = record { none = t .described } in
-    (w .0, (w .1, λ h. demand d accepted (natAbs D) (t .depth-most) (boxFrom lo hi) (t .good) len (room-none d lo hi D len h) left))
+    (w .0, (w .1, λ h. demand inUse d accepted (natAbs D) (t .depth-most) (boxFrom lo hi) (t .good) len (room-none inUse d lo hi D len h) left))
 
 pub walk-spec : {M : Type 1} → statement M
 walk-spec = tie.close (tie.spec (λ _ _. tt) (λ _ _. tt) returns of-requires cast-run run-requires same-length returns-2)

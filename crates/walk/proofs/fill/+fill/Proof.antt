@@ -3,7 +3,7 @@
 -- needs follow from these and from what the functions called promise. Assumes nothing.
 use mathlib.Core.Path.{_≡_, refl, sym, ap, _∙_}
 use mathlib.Core.List.{List}
-use Prim.Native.Nat.{ℕ, suc, _+_, _-_, _<_}
+use Prim.Native.Nat.{ℕ, suc, _-_, _<_}
 use native.Mathlib.Omega.{arith}
 use borrow.Author.Needs.{needs}
 use Rattle.gyroid.specs.declared.Gyroid.{Gyroid}
@@ -12,7 +12,8 @@ use Rattle.tree.specs.Tree.{leaves, cells}
 use Rattle.table.specs.Table.{Mark}
 use Rattle.table.proofs.BoundLaws.{within-ticks}
 use Rattle.table.proofs.Slots.{fill-leaf, fill-halves}
-use Rattle.walk.specs.Walk.{settled, marksOf}
+use Rattle.grade.specs.InUse.{inUse}
+use Rattle.walk.specs.FunctionsInUse.{settled, marksOf}
 use Rattle.walk.proofs.StepLaws.{AtCell, AtHalves, at-cell, at-halves}
 use Rattle.walk.proofs.MarkLaws.{marks-cell, marks-halves, marks-leaves}
 use Rattle.walk.proofs.PartLaws.{lower-ready, upper-ready}
@@ -237,7 +238,7 @@ fill-returns-2 t c =
       λ i. fill-halves (a .t .now) (first .last .1 .1 .1 .0) (second .last .1 .1 .1 .0) (a .total) (a .slot) (first .result)
           (leaves (settled (a .g)) longest d low) (marks (a .g) d (suc i) low) (marks (a .g) d (suc i) high) (marks (a .g) (a .depth) i b)
           (first .ensures .1 (suc i)) (second .ensures .1 (suc i)) (first .ensures .0)
-          (marks-leaves (a .g) d (suc i) low) (marks-halves (a .g) (a .depth) i b low high _ h (low-is t l) (high-is t u)),
+          (marks-leaves inUse (a .g) d (suc i) low) (marks-halves (a .g) (a .depth) i b low high _ h (low-is t l) (high-is t u)),
     )
 
 pub +fill-spec : {M : Type 1} → statement M

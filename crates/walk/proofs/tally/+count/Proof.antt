@@ -16,7 +16,8 @@ use Rattle.tree.proofs.LongestLaws.{fair-longest}
 use Rattle.tree.proofs.VolumeLaws.{volume-small}
 use Rattle.tree.proofs.SolidLaws.{solid-append, solid-cell, solid-le}
 use Rattle.walk.specs.declared.Counted.{Counted}
-use Rattle.walk.specs.Walk.{isInside, settled, inside}
+use Rattle.walk.specs.Walk.{isInside}
+use Rattle.walk.specs.FunctionsInUse.{settled, inside}
 use Rattle.walk.proofs.StepLaws.{AtCell, AtHalves, at-cell, at-halves}
 use Rattle.walk.proofs.PartLaws.{lower-ready, upper-ready}
 use borrow.Fn.Kinds.{In}

@@ -1,0 +1,32 @@
+-- THE REST AT THE ARITHMETIC IN USE: what the layer's functions say, and no promise of a public call. Definitions only; assumes nothing.
+use mathlib.Core.Bool.{Bool}
+use mathlib.Core.List.{List}
+use Prim.Native.Nat.{ℕ}
+use Rattle.grade.specs.InUse.{inUse}
+use Rattle.gyroid.specs.declared.Gyroid.{Gyroid}
+use Rattle.gyroid.specs.declared.State.{State}
+use Rattle.tree.specs.Box.{Box}
+use Rattle.tree.specs.Tree.{Cell}
+use Rattle.table.specs.Table.{Mark}
+use Rattle.walk.specs.Walk
+
+abbrev pub stateAt : Gyroid → Box → State
+stateAt = Walk.stateAt inUse
+
+abbrev pub settled : Gyroid → Box → Bool
+settled = Walk.settled inUse
+
+abbrev pub inside : Gyroid → Box → Bool
+inside = Walk.inside inUse
+
+abbrev pub cellsOf : Gyroid → ℕ → Box → List Cell
+cellsOf = Walk.cellsOf inUse
+
+abbrev pub evaluatedOf : Gyroid → ℕ → Box → ℕ
+evaluatedOf = Walk.evaluatedOf inUse
+
+abbrev pub solidOf : Gyroid → ℕ → Box → ℕ
+solidOf = Walk.solidOf inUse
+
+abbrev pub marksOf : Gyroid → List Cell → List Mark
+marksOf = Walk.marksOf inUse
