@@ -1,13 +1,14 @@
 #!/usr/bin/env python3
-"""Makes data/interval, the list of answers of document 01's "The interval stand-in" that the program `replay` runs.
+"""Makes data/interval, the list of answers of document 01's "The interval stand-in", with document 02's L2, that the program
+`replay` runs.
 
-Every answer is worked out over exact fractions, from document 01's words alone; no operation on doubles takes part but the
+Every answer is worked out over exact fractions, from the documents' words alone; no operation on doubles takes part but the
 conversion of one fraction to its nearest double and the step to a neighbouring double. Run from this folder:
 
     python3 interval_list.py > data/interval
 
 A record is seven words of eight bytes, little endian: the operation, four words that it takes, the two ends of the answer.
-src/main.rt says how they are read.
+src/intervals.rt says how they are read.
 """
 import math
 import random
@@ -51,12 +52,18 @@ F = Fraction
 HALF = F(1, 2)
 
 
+def end(q, step):
+    """Document 02: a sum's or a difference's end, stepped unless the rounded end equals the exact one."""
+    x = rounded(q)
+    return x if math.isfinite(x) and F(x) == q else step(x)
+
+
 def add(a, b):
-    return outward([rounded(F(a[0]) + F(b[0])), rounded(F(a[1]) + F(b[1]))])
+    return end(F(a[0]) + F(b[0]), down), end(F(a[1]) + F(b[1]), up)
 
 
 def sub(a, b):
-    return outward([rounded(F(a[0]) - F(b[1])), rounded(F(a[1]) - F(b[0]))])
+    return end(F(a[0]) - F(b[1]), down), end(F(a[1]) - F(b[0]), up)
 
 
 def mul(a, b):
@@ -118,6 +125,12 @@ def interval(r):
     return (a, b) if a <= b else (b, a)
 
 
+def short_interval(r, least):
+    """Ends of forty digits, within a range so small that about half of the sums of two such ends are exact."""
+    a, b = sorted(r.randrange(-(2**40), 2**40) << r.randint(0, 40) for _ in range(2))
+    return math.ldexp(a, least), math.ldexp(b, least)
+
+
 def main():
     r = random.Random(SEED)
     # every operation on random intervals, and on each interval of special ends against another
@@ -155,6 +168,14 @@ def main():
             record(op, [i], (down(x), up(x)))
     record(19, [], tuple(up(rounded(F(4, 5) ** n / math.factorial(n))) for n in (19, 18)))
     record(20, [], (double(0x401921FB54442D18), double(0x401921FB54442D19)))
+    # sums and differences that are exact at some ends and rounded at others, and such as overflow
+    for op in (0, 1):
+        for least in [-1074, -60, 900] * 12:
+            pair(op, short_interval(r, least), short_interval(r, least))
+        for small in (2.0**969, 2.0**970, 2.0**971, ENDS[-1]):
+            pair(op, (ENDS[0], ENDS[-1]), (-small, small))
+            pair(op, (ENDS[-1], ENDS[-1]), (small, small))
+            pair(op, (ENDS[0], ENDS[0]), (small, small))
 
 
 main()

@@ -142,6 +142,22 @@ fn double_pairs(call: Call, out: &mut Vec<Request>) {
     }
 }
 
+/// Boxes that end up to 16 of the least doubles before or behind 0, where anchor planes stand. There it hangs on a sum that is kept
+/// exact whether the box has a piece.
+fn beside_zero(call: Call, out: &mut Vec<Request>) {
+    for base in bases() {
+        for axis in 0..3 {
+            for near in (1..=16).map(f64::from_bits) {
+                for ends in [[-1.0 / 1024.0, -near], [near, 1.0 / 1024.0]] {
+                    let mut request = quiet(call, base);
+                    request.doubles[2 * axis..][..2].copy_from_slice(&ends);
+                    out.push(request);
+                }
+            }
+        }
+    }
+}
+
 fn pieces(call: Call, out: &mut Vec<Request>) {
     for base in bases() {
         for piece in [0, 1, 2, 3, 4, 1 << 31, u32::MAX] {
@@ -187,6 +203,9 @@ pub fn systematic(call: Call) -> Vec<Request> {
     }
     if call.shape() == Shape::Walk {
         walks_of(call, &mut out);
+    }
+    if matches!(call.shape(), Shape::World | Shape::WorldPiece) {
+        beside_zero(call, &mut out);
     }
     if call.shape() == Shape::WorldPiece {
         pieces(call, &mut out);

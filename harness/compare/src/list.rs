@@ -4,7 +4,7 @@
 use crate::chance::Chance;
 use crate::entries::*;
 use crate::{added, cases, descriptions};
-use request::{Answer, Call, Description, Request, Value};
+use request::{Answer, Call, Description, Request, Shape, Value};
 
 const SEED: u64 = 1;
 /// Descriptions of either surface that are accepted, and others, some of which are refused.
@@ -157,6 +157,35 @@ fn saturation(out: &mut Vec<u8>) {
     }
 }
 
+/// Every call that takes a box of doubles, about one with x in these ends and y, z from 0 to this; of either surface.
+fn boxed(d: Description, [low, high]: [f64; 2], other: f64, out: &mut Vec<u8>) {
+    for d in [d, primitive(d)] {
+        out.extend(description(&d).unwrap_or_default());
+        for (number, call) in (1..).zip(CALLS) {
+            if matches!(call.shape(), Shape::World | Shape::WorldPiece) {
+                let mut request = Request::new(call, d);
+                request.doubles[..6].copy_from_slice(&[low, high, 0.0, other, 0.0, other]);
+                out.extend(record(number, &request).unwrap_or_default());
+            }
+        }
+    }
+}
+
+/// Where exact sums show: the boxes of document 01's listing, whose half-widths are exact; one that has a rounded half-width; and
+/// marked G close before its start plane, where a box has its piece from seven of the least doubles on. It would have it from eight
+/// on if every sum were stepped.
+fn exact_sums(out: &mut Vec<u8>) {
+    let (mut listing, mut marked) = (PLAIN, PLAIN);
+    listing[START] = 2048;
+    (marked[LEVEL_KIND], marked[TO], marked[START], marked[END]) = (LINEAR, 10240, -RAMP, RAMP);
+    for x in [[0.0, 1.0], [0.0, 0.5], [0.1, 1.0]] {
+        boxed(listing, x, 1.0, out);
+    }
+    for least_doubles in 6..=8 {
+        boxed(marked, [-1.0 / 1024.0, -f64::from_bits(least_doubles)], 0.0, out);
+    }
+}
+
 /// The list.
 pub fn list() -> Vec<u8> {
     let mut out = Vec::new();
@@ -172,5 +201,6 @@ pub fn list() -> Vec<u8> {
         let d = descriptions::description(c);
         about(c, &d, 1, &mut out);
     }
+    exact_sums(&mut out);
     out
 }

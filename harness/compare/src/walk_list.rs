@@ -113,6 +113,16 @@ fn extremes(out: &mut Vec<Request>) {
     }
 }
 
+/// Boxes of the primitive surface that are inside by a hair, each one cell. With every sum stepped they would be unsettled and halved.
+fn hairs(out: &mut Vec<Request>) {
+    let boxes = [
+        (256, [460173, 269837, 3072, 594317, 406029, 134144]),
+        (-1024, [502103, 187849, 408576, 640343, 318921, 539648]),
+        (1024, [122349, 110722, 413696, 257517, 242818, 544768]),
+    ];
+    out.extend(boxes.map(|(level, whole)| exact(primitive(constant(TICKS, level)), whole, 1)));
+}
+
 /// Tables about the room that a walk wants.
 fn rooms(out: &mut Vec<Request>) {
     let ramp = ramp(10240, 0, [0, 10240], [-256, 256]);
@@ -189,7 +199,7 @@ fn record(request: &Request) -> Option<Vec<u8>> {
 
 fn requests() -> Vec<Request> {
     let mut out = Vec::new();
-    for add in [constants, ramps, extremes, rooms, refusals, chances] {
+    for add in [constants, ramps, extremes, rooms, refusals, chances, hairs] {
         add(&mut out);
     }
     out
@@ -224,6 +234,18 @@ mod tests {
         }
         for depth in (0..8).chain([24]) {
             assert!(depths.get(&depth) > Some(&5), "{depth}: {depths:?}");
+        }
+    }
+
+    #[test]
+    fn hairs_are_settled() {
+        if !reference::AT_HAND {
+            return;
+        }
+        let mut walks = Vec::new();
+        hairs(&mut walks);
+        for request in walks {
+            assert_eq!(walk::cells(&request), Some(1), "{request}");
         }
     }
 

@@ -1,5 +1,6 @@
-//! The original Rust, compiled whole and unchanged over stand-ins that are written from document 01's words, and asked by request.
-//! Beside it stands the primitive surface, a port of document 02's lines over the original's `turn` and levels.
+//! The original Rust, compiled whole and unchanged over stand-ins that are written from document 01's words, the sums of intervals
+//! from document 02's, and asked by request. Beside it stands the primitive surface, a port of document 02's lines over the
+//! original's `turn` and levels.
 //!
 //! Its two files are fetched when this crate is built; they are no part of this repository. Where they are missing the crate still
 //! builds, and every answer is `Unavailable`.

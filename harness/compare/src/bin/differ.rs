@@ -11,8 +11,8 @@ const HELP: &str = "differ [COUNT [SEED]]: both sides on the same requests, ever
 
 COUNT (2000) cases by chance for each of the 17 calls, from SEED (1), in addition to a systematic part that is the same every time:
 every entry at every special number, every pair of the refusal table's rows, every pair of special doubles and of special ticks as
-the ends of each axis. A zero's sign is open, and fractions are compared by value. Of a walk every byte of the table is compared,
-refused or not, with a plain walk over the original's box_state.
+the ends of each axis, boxes that end some least doubles beside an anchor plane. A zero's sign is open, and fractions are compared
+by value. Of a walk every byte of the table is compared, refused or not, with a plain walk over the original's box_state.
 
 Half of the descriptions are of the network and half of the primitive surface, which the original does not know: there document 02's
 lines stand in its place.
