@@ -3,8 +3,9 @@ use mathlib.Core.Path.{_≡_, refl}
 use mathlib.Core.List.{List, [], _∷_, _++_}
 use Prim.Native.Nat.{ℕ}
 use lib.IntN.{pos, negsuc}
+use Rattle.table.specs.declared.Head.{Head}
 use Rattle.table.specs.Table.{Mark, word4, word8, headBytes, cellBytes, cellsBytes, tableBytes}
-use Rattle.table.specs.Read.{marksIn, chain, markIn}
+use Rattle.table.specs.Read.{headIn, marksIn, chain, markIn}
 
 lower : Mark
 lower = record { state = 1; box = record { lx = negsuc 1; ly = pos 0; lz = pos 0; hx = negsuc 0; hy = pos 1; hz = pos 1 } }
@@ -22,9 +23,16 @@ bytes =
     ++ (0 ∷ 0 ∷ 0 ∷ 0 ∷ 0 ∷ 0 ∷ 0 ∷ 0 ∷ 1 ∷ 0 ∷ 0 ∷ 0 ∷ 1 ∷ 0 ∷ 0 ∷ 0 ∷ [])
     ++ (0 ∷ 0 ∷ 0 ∷ 0 ∷ [])
 
-written-bytes : tableBytes 100 3 1 1 (lower ∷ upper ∷ []) ≡ bytes
-unfolding tableBytes headBytes cellsBytes cellBytes word8 word4 lower upper bytes
+head : Head
+head = record { first = 1; cells = 2; evaluated = 3; solid = 1; «open» = 1 }
+
+written-bytes : tableBytes 100 head (lower ∷ upper ∷ []) ≡ bytes
+unfolding tableBytes headBytes cellsBytes cellBytes word8 word4 head lower upper bytes
 written-bytes = refl
+
+read-head : headIn bytes ≡ head
+unfolding head bytes
+read-head = refl
 
 read-cells : marksIn bytes ≡ lower ∷ upper ∷ []
 unfolding chain markIn lower upper bytes

@@ -7,35 +7,22 @@ use native.Mathlib.Nat.{add-assoc, add-zero}
 use lib.IntN.{ℤ}
 use lib.ListN.{drop, getD}
 use lib.Seq.{getD-drop}
+use Rattle.table.specs.declared.Head.{Head}
 use Rattle.table.specs.Table.{Mark, word4, word8, bits, headBytes, cellBytes}
-use Rattle.table.specs.Read.{u32At, u64At, i32At, twosComplement, nextIn, markIn}
-use Rattle.table.specs.Bounds.{FitsI32, Fits}
+use Rattle.table.specs.Read.{u32At, i32At, twosComplement, headIn, nextIn, markIn}
+use Rattle.table.specs.Bounds.{HeadFits, FitsI32, Fits}
 use Rattle.table.proofs.Words.{digits, two-words, twos-complement-bits, bits-below}
 
 -- ---- slot 0 at the front
-module _ (cells evaluated solid vacant : ℕ) (r : List ℕ) where
-  abbrev head : List ℕ
-  head = headBytes cells evaluated solid vacant ++ r
-
-  pub head-first : u32At head 0 ≡ 1
-  unfolding headBytes word4
-  head-first = refl
-
-  pub head-cells : cells < 4294967296 → u32At head 4 ≡ cells
-  unfolding headBytes word4
-  head-cells h = digits cells h
-
-  pub head-evaluated : evaluated < 4294967296 → u32At head 8 ≡ evaluated
-  unfolding headBytes word4
-  head-evaluated h = digits evaluated h
-
-  pub head-solid : solid < 18446744073709551616 → u64At head 12 ≡ solid
-  unfolding headBytes word8 word4
-  head-solid h = two-words solid (digits (solid % 4294967296) (omega arith)) (digits (solid / 4294967296) (omega arith))
-
-  pub head-open : vacant < 18446744073709551616 → u64At head 20 ≡ vacant
-  unfolding headBytes word8 word4
-  head-open h = two-words vacant (digits (vacant % 4294967296) (omega arith)) (digits (vacant / 4294967296) (omega arith))
+pub head-front : (h : Head) (r : List ℕ) → HeadFits h → headIn (headBytes h ++ r) ≡ h
+unfolding headBytes word8 word4
+head-front h r f = λ i. record {
+  first = digits (h .first) (f .first) i;
+  cells = digits (h .cells) (f .cells) i;
+  evaluated = digits (h .evaluated) (f .evaluated) i;
+  solid = two-words (h .solid) (digits (h .solid % 4294967296) (omega arith)) (digits (h .solid / 4294967296) (omega (arith, f .solid))) i;
+  «open» = two-words (h .«open») (digits (h .«open» % 4294967296) (omega arith)) (digits (h .«open» / 4294967296) (omega (arith, f .«open»))) i;
+}
 
 -- ---- a cell at the front
 coordinate : (z : ℤ) {w : ℕ} → FitsI32 z → w ≡ bits z % 256 + bits z / 256 % 256 * 256 + bits z / 65536 % 256 * 65536 + bits z / 16777216 % 256 * 16777216

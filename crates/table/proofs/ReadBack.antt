@@ -7,12 +7,13 @@ use native.Mathlib.Omega.{arith}
 use borrow.Author.Tests.{eq-eqb, ne-eqb}
 use lib.ListN.{length, drop, replicate}
 use lib.Seq.{drop-drop, drop-at}
+use Rattle.table.specs.declared.Head.{Head}
 use Rattle.table.specs.Table.{Mark, headBytes, cellBytes, nextSlot, cellsBytes, tableBytes}
-use Rattle.table.specs.Read.{firstIn, cellsIn, evaluatedIn, solidIn, openIn, nextIn, chain, chainEnd}
-use Rattle.table.specs.Bounds.{AllFit}
+use Rattle.table.specs.Read.{firstIn, cellsIn, headIn, nextIn, chain, chainEnd}
+use Rattle.table.specs.Bounds.{HeadFits, AllFit}
 use Rattle.table.specs.Told.{Told}
 use Rattle.table.proofs.Slots.{length-head, length-cell}
-use Rattle.table.proofs.Fronts.{head-first, head-cells, head-evaluated, head-solid, head-open, next-at, mark-at}
+use Rattle.table.proofs.Fronts.{head-front, next-at, mark-at}
 
 -- the chain of cells that stand in a list from a slot on
 record Chained (t : List ℕ) (slot : ℕ) (ms : List Mark) : Type 0 where
@@ -48,25 +49,21 @@ chained t rest total slot (m ∷ k ∷ ms) g n h e =
       ends = λ p. ap (λ (j : ℕ). chainEnd (length (k ∷ ms)) t j) goes ∙ others .ends (omega arith);
     }
 
-pub told : (len evaluated solid vacant : ℕ) (ms : List Mark) → AllFit ms → length ms < 4294967296 → evaluated < 4294967296
-    → solid < 18446744073709551616 → vacant < 18446744073709551616 → Told (tableBytes len evaluated solid vacant ms) evaluated solid vacant ms
+pub told : (len : ℕ) (h : Head) (ms : List Mark) → HeadFits h → AllFit ms → h .first ≡ 1 → h .cells ≡ length ms → Told (tableBytes len h ms) h ms
 unfolding tableBytes
-told len evaluated solid vacant ms g n he hs hv =
-    let head : List ℕ = headBytes (length ms) evaluated solid vacant in
+told len h ms f g e n =
+    let head : List ℕ = headBytes h in
     let cells : List ℕ = cellsBytes (length ms) 1 ms in
     let zeros : List ℕ = replicate (len - 32 * (length ms + 1)) 0 in
     let t : List ℕ = head ++ cells ++ zeros in
     let front : t ≡ head ++ (cells ++ zeros) = append-assoc head cells zeros in
-    let first : firstIn t ≡ 1 = ap firstIn front ∙ head-first (length ms) evaluated solid vacant (cells ++ zeros) in
-    let many : cellsIn t ≡ length ms = ap cellsIn front ∙ head-cells (length ms) evaluated solid vacant (cells ++ zeros) n in
-    let all = chained t zeros (length ms) 1 ms g (omega arith) n
-    (ap (λ (x : List ℕ). drop 32 x) front ∙ drop-at head (cells ++ zeros) 32 (length-head (length ms) evaluated solid vacant)) in
+    let read : headIn t ≡ h = ap headIn front ∙ head-front h (cells ++ zeros) f in
+    let first : firstIn t ≡ 1 = ap (λ (k : Head). k .first) read ∙ e in
+    let many : cellsIn t ≡ length ms = ap (λ (k : Head). k .cells) read ∙ n in
+    let all = chained t zeros (length ms) 1 ms g (omega arith) (omega (arith, n, f .cells))
+    (ap (λ (x : List ℕ). drop 32 x) front ∙ drop-at head (cells ++ zeros) 32 (length-head h)) in
     record {
-      first-is = first;
-      cells-are = many;
-      evaluated-is = ap evaluatedIn front ∙ head-evaluated (length ms) evaluated solid vacant (cells ++ zeros) he;
-      solid-is = ap solidIn front ∙ head-solid (length ms) evaluated solid vacant (cells ++ zeros) hs;
-      open-is = ap openIn front ∙ head-open (length ms) evaluated solid vacant (cells ++ zeros) hv;
+      head-is = read;
       marks-are = (λ i. chain (many i) t (first i)) ∙ all .marks-are;
       ends = λ p. (λ i. chainEnd (many i) t (first i)) ∙ all .ends p;
     }

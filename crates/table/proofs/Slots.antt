@@ -6,13 +6,14 @@ use native.Mathlib.Omega.{arith}
 use native.Mathlib.Nat.{add-zero, add-suc, suc-add}
 use lib.ListN.{length, length-append}
 use lib.Seq.{sets}
+use Rattle.table.specs.declared.Head.{Head}
 use Rattle.table.specs.Table.{Mark, headBytes, cellBytes, nextSlot, cellsBytes}
 use Rattle.table.proofs.Stores.{sets-then}
 use Rattle.table.proofs.Words.{length-word4, length-word8}
 
-pub length-head : (cells evaluated solid vacant : ℕ) → length (headBytes cells evaluated solid vacant) ≡ 32
+pub length-head : (h : Head) → length (headBytes h) ≡ 32
 unfolding headBytes
-length-head cells evaluated solid vacant = simp (length-append, length-word4, length-word8)
+length-head h = simp (length-append, length-word4, length-word8)
 
 pub length-cell : (next : ℕ) (m : Mark) → length (cellBytes next m) ≡ 32
 unfolding cellBytes

@@ -7,6 +7,7 @@ use lib.Seq.{sets}
 use Rattle.tree.specs.Box.{Box, unshifted, boxOf}
 use Rattle.tree.specs.declared.ShiftedBox.{ShiftedBox}
 use Rattle.tree.proofs.Coordinates.{coordinates}
+use Rattle.table.specs.declared.Head.{Head}
 use Rattle.table.specs.Table.{word4, word8, bits, headBytes, cellBytes}
 use Rattle.table.proofs.Stores.{sets-then}
 use Rattle.table.proofs.Words.{length-word4, length-word8}
@@ -22,23 +23,23 @@ unfolding word4
 zero-word = refl
 
 -- slot 0
-pub head-stored : (l : List ℕ) (cells evaluated solid vacant : ℕ) {m n o p q r : List ℕ} → m ≡ sets l 0 (word4 1) → n ≡ sets m 4 (word4 cells)
-    → o ≡ sets n 8 (word4 evaluated)
-    → p ≡ sets o 12 (word8 solid) → q ≡ sets p 20 (word8 vacant) → r ≡ sets q 28 (word4 0) → r ≡ sets l 0 (headBytes cells evaluated solid vacant)
+pub head-stored : (l : List ℕ) (h : Head) {m n o p q r : List ℕ} → m ≡ sets l 0 (word4 (h .first)) → n ≡ sets m 4 (word4 (h .cells))
+    → o ≡ sets n 8 (word4 (h .evaluated)) → p ≡ sets o 12 (word8 (h .solid)) → q ≡ sets p 20 (word8 (h .«open»)) → r ≡ sets q 28 (word4 0)
+    → r ≡ sets l 0 (headBytes h)
 unfolding headBytes
-head-stored l cells evaluated solid vacant e f g h i j =
-    let two : List ℕ = word4 1 ++ word4 cells in
-    let three : List ℕ = two ++ word4 evaluated in
-    let four : List ℕ = three ++ word8 solid in
-    let five : List ℕ = four ++ word8 vacant in
+head-stored l h e1 e2 e3 e4 e5 e6 =
+    let two : List ℕ = word4 (h .first) ++ word4 (h .cells) in
+    let three : List ℕ = two ++ word4 (h .evaluated) in
+    let four : List ℕ = three ++ word8 (h .solid) in
+    let five : List ℕ = four ++ word8 (h .«open») in
     sets-then l 0 five (word4 0)
-    (sets-then l 0 four (word8 vacant)
-    (sets-then l 0 three (word8 solid)
-    (sets-then l 0 two (word4 evaluated)
-    (sets-then l 0 (word4 1) (word4 cells) e f (simp length-word4)) g
-    (simp (length-append, length-word4))) h
-    (simp (length-append, length-word4))) i
-    (simp (length-append, length-word4, length-word8))) j
+    (sets-then l 0 four (word8 (h .«open»))
+    (sets-then l 0 three (word8 (h .solid))
+    (sets-then l 0 two (word4 (h .evaluated))
+    (sets-then l 0 (word4 (h .first)) (word4 (h .cells)) e1 e2 (simp length-word4)) e3
+    (simp (length-append, length-word4))) e4
+    (simp (length-append, length-word4))) e5
+    (simp (length-append, length-word4, length-word8))) e6
     (simp (length-append, length-word4, length-word8))
     ∙ ap (λ (w : List ℕ). sets l 0 (five ++ w)) zero-word
 

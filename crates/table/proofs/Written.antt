@@ -5,13 +5,14 @@ use Prim.Native.Nat.{ℕ, _+_, _-_, _*_, _≤_}
 use native.Mathlib.Omega.{arith}
 use lib.ListN.{length, drop, replicate, length-append, length-replicate, replicate-append-replicate}
 use lib.Seq.{sets, sets-eq, take-at, drop-at, drop-append-add}
+use Rattle.table.specs.declared.Head.{Head}
 use Rattle.table.specs.Table.{Mark, headBytes, cellsBytes, tableBytes}
 use Rattle.table.proofs.Slots.{length-head, length-cells-bytes}
 
-pub length-table : (len evaluated solid vacant : ℕ) (ms : List Mark) → 32 * (length ms + 1) ≤ len → length (tableBytes len evaluated solid vacant ms) ≡ len
+pub length-table : (len : ℕ) (h : Head) (ms : List Mark) → 32 * (length ms + 1) ≤ len → length (tableBytes len h ms) ≡ len
 unfolding tableBytes
-length-table len evaluated solid vacant ms h =
-    let head : List ℕ = headBytes (length ms) evaluated solid vacant in
+length-table len h ms fits =
+    let head : List ℕ = headBytes h in
     let cells : List ℕ = cellsBytes (length ms) 1 ms in
     let zeros : List ℕ = replicate (len - 32 * (length ms + 1)) 0 in
     let more : length zeros ≡ len - 32 * (length ms + 1) = length-replicate (len - 32 * (length ms + 1)) 0 in
@@ -19,7 +20,7 @@ length-table len evaluated solid vacant ms h =
       arith,
       length-append (head ++ cells) zeros,
       length-append head cells,
-      length-head (length ms) evaluated solid vacant,
+      length-head h,
       length-cells-bytes (length ms) 1 ms,
     )
 
@@ -32,22 +33,21 @@ zeros-drop k n h =
     ap (λ (l : List ℕ). drop k l) (ap (λ (x : ℕ). replicate x 0) (sym e) ∙ sym (replicate-append-replicate k (n - k) 0))
     ∙ drop-at (zeros k) (zeros (n - k)) k (length-replicate k 0)
 
-pub written : (len total evaluated solid vacant : ℕ) (ms : List Mark) {z h r : List ℕ} → z ≡ replicate len 0
-    → h ≡ sets z 0 (headBytes total evaluated solid vacant)
-    → r ≡ sets h 32 (cellsBytes total 1 ms) → length ms ≡ total → 32 * (total + 1) ≤ len → r ≡ tableBytes len evaluated solid vacant ms
+pub written : (len total : ℕ) (h : Head) (ms : List Mark) {z y r : List ℕ} → z ≡ replicate len 0 → y ≡ sets z 0 (headBytes h)
+    → r ≡ sets y 32 (cellsBytes total 1 ms) → length ms ≡ total → 32 * (total + 1) ≤ len → r ≡ tableBytes len h ms
 unfolding tableBytes
-written len total evaluated solid vacant ms {z} {h} {r} ez eh er n fits =
-    let head : List ℕ = headBytes total evaluated solid vacant in
+written len total h ms {z} {y} {r} ez ey er n fits =
+    let head : List ℕ = headBytes h in
     let cells : List ℕ = cellsBytes total 1 ms in
     let rest : List ℕ = zeros (len - 32) in
-    let head32 : length head ≡ 32 = length-head total evaluated solid vacant in
+    let head32 : length head ≡ 32 = length-head h in
     let cells-long : length cells ≡ 32 * total = length-cells-bytes total 1 ms ∙ ap (λ (k : ℕ). 32 * k) n in
     let len-long : length (zeros len) ≡ len = length-replicate len 0 in
     let rest-long : length rest ≡ len - 32 = length-replicate (len - 32) 0 in
     let end : 0 + length head ≡ 32 = omega arith in
     let left : len - 32 - 32 * total ≡ len - 32 * (total + 1) = omega arith in
-    let with-head : h ≡ head ++ rest =
-    eh ∙ ap (λ (l : List ℕ). sets l 0 head) ez ∙ sets-eq head (zeros len) 0 (omega arith)
+    let with-head : y ≡ head ++ rest =
+    ey ∙ ap (λ (l : List ℕ). sets l 0 head) ez ∙ sets-eq head (zeros len) 0 (omega arith)
     ∙ ap (λ (l : List ℕ). head ++ l) (ap (λ (k : ℕ). drop k (zeros len)) end ∙ zeros-drop 32 len (omega arith)) in
     let room : 32 + length cells ≤ length (head ++ rest) = omega (arith, length-append head rest) in
     er ∙ ap (λ (l : List ℕ). sets l 32 cells) with-head ∙ sets-eq cells (head ++ rest) 32 room
@@ -55,4 +55,4 @@ written len total evaluated solid vacant ms {z} {h} {r} ez eh er n fits =
     ∙ ap (λ (l : List ℕ). head ++ cells ++ l)
     (ap (λ (k : ℕ). drop (k + length cells) (head ++ rest)) (sym head32) ∙ drop-append-add head rest (length cells) ∙ ap (λ (k : ℕ). drop k rest) cells-long
     ∙ zeros-drop (32 * total) (len - 32) (omega arith) ∙ ap (λ (k : ℕ). zeros k) left)
-    ∙ ap (λ (k : ℕ). headBytes k evaluated solid vacant ++ cellsBytes k 1 ms ++ zeros (len - 32 * (k + 1))) (sym n)
+    ∙ ap (λ (k : ℕ). head ++ cellsBytes k 1 ms ++ zeros (len - 32 * (k + 1))) (sym n)

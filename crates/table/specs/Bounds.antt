@@ -4,6 +4,7 @@ use Prim.Native.Nat.{_≤_, _<_}
 use lib.IntN.{ℤ, pos, negsuc}
 use lib.Signed.{_≤ℤ_}
 use Rattle.tree.specs.declared.ShiftedBox.{ShiftedBox}
+use Rattle.table.specs.declared.Head.{Head}
 use Rattle.table.specs.Table.{Mark}
 
 -- the coordinates of the code's box are those of ticks of −2^20 to 2^20
@@ -14,6 +15,14 @@ pub record WithinTicks (b : ShiftedBox) : Type 0 where
   pub hx : b .hx ≤ 2097152
   pub hy : b .hy ≤ 2097152
   pub hz : b .hz ≤ 2097152
+
+-- slot 0: three u32 and two u64
+pub record HeadFits (h : Head) : Type 0 where
+  pub first : h .first < 4294967296
+  pub cells : h .cells < 4294967296
+  pub evaluated : h .evaluated < 4294967296
+  pub solid : h .solid < 18446744073709551616
+  pub «open» : h .«open» < 18446744073709551616
 
 -- an i32
 pub record FitsI32 (z : ℤ) : Type 0 where

@@ -6,6 +6,7 @@ use Prim.Native.Nat.{ℕ, zero, suc, _+_, _-_, _*_}
 use lib.Dec.{ltb}
 use lib.IntN.{ℤ, pos, negsuc}
 use lib.ListN.{getD}
+use Rattle.table.specs.declared.Head.{Head}
 use Rattle.table.specs.Table.{Mark}
 
 -- a u32, a u64 and an i32 at an index, "little endian"
@@ -37,6 +38,9 @@ solidIn t = u64At t 12
 
 abbrev pub openIn : List ℕ → ℕ
 openIn t = u64At t 20
+
+abbrev pub headIn : List ℕ → Head
+headIn t = record { first = firstIn t; cells = cellsIn t; evaluated = evaluatedIn t; solid = solidIn t; «open» = openIn t }
 
 -- ---- a cell's slot: "next slot (u32, zero ends the chain), state (u32 ..), three lows, three highs (i32)"
 abbrev pub nextIn : List ℕ → ℕ → ℕ

@@ -7,6 +7,7 @@ use lib.Dec.{eqb}
 use lib.IntN.{ℤ, pos, negsuc}
 use lib.ListN.{length, replicate}
 use Rattle.tree.specs.Box.{Box}
+use Rattle.table.specs.declared.Head.{Head}
 
 -- a u32 and a u64
 unfoldable pub word4 : ℕ → List ℕ
@@ -26,8 +27,8 @@ pub record Mark : Type 0 where
   pub box : Box
 
 -- "Slot 0: first cell (u32, 1), cells (u32), evaluated (u32), solid volume (u64), open volume (u64), zeros."
-unfoldable pub headBytes : ℕ → ℕ → ℕ → ℕ → List ℕ
-headBytes cells evaluated solid vacant = word4 1 ++ word4 cells ++ word4 evaluated ++ word8 solid ++ word8 vacant ++ replicate 4 0
+unfoldable pub headBytes : Head → List ℕ
+headBytes h = word4 (h .first) ++ word4 (h .cells) ++ word4 (h .evaluated) ++ word8 (h .solid) ++ word8 (h .«open») ++ replicate 4 0
 
 -- "A cell: next slot (u32, zero ends the chain), state (u32 ..), three lows, three highs (i32)."
 unfoldable pub cellBytes : ℕ → Mark → List ℕ
@@ -46,8 +47,5 @@ cellsBytes total slot [] = []
 cellsBytes total slot (m ∷ ms) = cellBytes (nextSlot total slot) m ++ cellsBytes total (suc slot) ms
 
 -- a table of `len` bytes; "all later bytes are zero"
-unfoldable pub tableBytes : ℕ → ℕ → ℕ → ℕ → List Mark → List ℕ
-tableBytes len evaluated solid vacant ms =
-    headBytes (length ms) evaluated solid vacant
-    ++ cellsBytes (length ms) 1 ms
-    ++ replicate (len - 32 * (length ms + 1)) 0
+unfoldable pub tableBytes : ℕ → Head → List Mark → List ℕ
+tableBytes len h ms = headBytes h ++ cellsBytes (length ms) 1 ms ++ replicate (len - 32 * (length ms + 1)) 0

@@ -1,8 +1,9 @@
-// What is read from a table: a number at an index, little endian.
+// What is read from a table: a number at an index, little endian, and slot 0.
 ghost use mathlib.Core.Path.{_≡_};
 ghost use Prim.Native.Nat.{_+_, _≤_, _<_};
 ghost use lib.ListN.{length};
-ghost use Rattle.table.specs.Read.{u32At, u64At, i32At};
+ghost use Rattle.table.specs.Read.{u32At, u64At, i32At, headIn};
+use crate::Head;
 
 // A byte is below 256.
 fn wide(x: u8) -> usize
@@ -20,7 +21,7 @@ pub fn u32_at(t: &[u8], at: usize) -> usize
     wide(t[at]) + wide(t[at + 1]) * 256 + wide(t[at + 2]) * 65536 + wide(t[at + 3]) * 16777216
 }
 
-pub fn u64_at(t: &[u8], at: usize) -> usize
+fn u64_at(t: &[u8], at: usize) -> usize
     requires { ⌜ at + 8 ≤ length (now t) ⌝ }
     ensures { λ r. ⌜ r ≡ u64At (now (t .entry)) at ⌝ }
 {
@@ -36,4 +37,18 @@ pub fn i32_at(t: &[u8], at: usize) -> i64
         return w as i64;
     }
     w as i64 - 4294967296
+}
+
+// Slot 0.
+pub fn head_of(t: &[u8]) -> Head
+    requires { ⌜ 32 ≤ length (now t) ⌝ }
+    ensures { λ r. ⌜ r ≡ headIn (now (t .entry)) ⌝ }
+{
+    Head {
+        first: u32_at(t, 0),
+        cells: u32_at(t, 4),
+        evaluated: u32_at(t, 8),
+        solid: u64_at(t, 12),
+        open: u64_at(t, 20),
+    }
 }

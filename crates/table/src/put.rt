@@ -8,6 +8,7 @@ ghost use lib.Seq.{sets};
 ghost use Rattle.tree.specs.Box.{unshifted, boxOf};
 ghost use Rattle.table.specs.Table.{word4, word8, bits, headBytes, cellBytes, nextSlot};
 ghost use Rattle.table.specs.Bounds.{WithinTicks};
+use crate::Head;
 use tree::ShiftedBox;
 
 // Sets every byte to zero.
@@ -63,15 +64,15 @@ fn put_corner(t: &mut [u8], at: usize, x: usize, y: usize, z: usize)
 }
 
 // Slot 0.
-pub fn put_head(t: &mut [u8], cells: usize, evaluated: usize, solid: usize, vacant: usize)
+pub fn put_head(t: &mut [u8], head: Head)
     requires { ⌜ 32 ≤ length (now t) ⌝ }
-    ensures { λ _. ⌜ now (t .exit) ≡ sets (now (t .entry)) 0 (headBytes cells evaluated solid vacant) ⌝ }
+    ensures { λ _. ⌜ now (t .exit) ≡ sets (now (t .entry)) 0 (headBytes head) ⌝ }
 {
-    put_u32(t, 0, 1);
-    put_u32(t, 4, cells);
-    put_u32(t, 8, evaluated);
-    put_u64(t, 12, solid);
-    put_u64(t, 20, vacant);
+    put_u32(t, 0, head.first);
+    put_u32(t, 4, head.cells);
+    put_u32(t, 8, head.evaluated);
+    put_u64(t, 12, head.solid);
+    put_u64(t, 20, head.open);
     put_u32(t, 28, 0);
 }
 

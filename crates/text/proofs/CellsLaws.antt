@@ -13,6 +13,7 @@ use mir.Val.{toZ, ofZ}
 use Rattle.exact.proofs.Signed.{back}
 use Rattle.grade.specs.Grade.{at}
 use Rattle.grade.proofs.RefusalLaws.{refused-is, answer-is}
+use Rattle.table.specs.declared.Head.{Head}
 use Rattle.table.specs.Table.{Mark}
 use Rattle.grade.specs.InUse.{inUse}
 use Rattle.walk.specs.Demand.{Every}
@@ -33,8 +34,8 @@ short : (ms : List Mark) → Every InTree ms → AllShort ms
 short [] h = tt
 short (m ∷ ms) h = (good-short m (omega (arith, h .0 .state)) (h .0 .good), short ms (h .1))
 
-tells-fit : (t : List ℕ) {n evaluated solid vacant : ℕ} (ms : List Mark) → n ≡ 2048 → Tells n t evaluated solid vacant ms → length (listing t) ≤ 131072
-tells-fit t ms e w = listing-fits t _ _ _ ms (w .told) (omega (arith, w .fits)) (w .evaluated-small) (w .solid-small) (w .open-small) (short ms (w .marks))
+tells-fit : (t : List ℕ) {n : ℕ} {h : Head} (ms : List Mark) → n ≡ 2048 → Tells n t h ms → length (listing t) ≤ 131072
+tells-fit t ms e w = listing-fits t _ ms (w .told) (w .head-fits) (omega (arith, w .fits)) (short ms (w .marks))
 
 fits : (ns : List ℤ) → numberOf ns (length freshTable) ≡ 0 → length (listing (tableOf ns freshTable)) ≤ 131072
 unfolding numberOf tableOf freshTable

@@ -6,6 +6,7 @@ use Prim.Native.Nat.{ℕ}
 use native.Mathlib.Omega.{arith}
 use lib.IntN.{ℤ, pos, negsuc}
 use lib.ListN.{getD}
+use Rattle.table.specs.declared.Head.{Head}
 use Rattle.table.specs.Table.{Mark}
 use Rattle.table.specs.Told.{Told}
 use Rattle.text.specs.Ascii.{ascii}
@@ -107,12 +108,15 @@ cells =
     ∷ record { state = 3; box = record { lx = pos 512; ly = pos 0; lz = pos 0; hx = pos 1024; hy = pos 1024; hz = pos 1024 } }
     ∷ []
 
-lines : headLine 2 3 536870912 536870912 ++ cellLines cells
+head : Head
+head = record { first = 1; cells = 2; evaluated = 3; solid = 536870912; «open» = 536870912 }
+
+lines : headLine head ++ cellLines cells
     ≡ ascii "2 3 536870912 536870912\n1 0 0 0 512 1024 1024\n3 512 0 0 1024 1024 1024\n"
-unfolding cells headLine cellLines cellLine cornerText signedDecimal decimal digitsWithin
+unfolding cells head headLine cellLines cellLine cornerText signedDecimal decimal digitsWithin
 lines = refl
 
-document-listing : (t : List ℕ) → Told t 3 536870912 536870912 cells
+document-listing : (t : List ℕ) → Told t head cells
     → listing t ≡ ascii "2 3 536870912 536870912\n1 0 0 0 512 1024 1024\n3 512 0 0 1024 1024 1024\n"
-unfolding cells
-document-listing t h = listing-told t 3 536870912 536870912 cells h ∙ lines
+unfolding cells head
+document-listing t h = listing-told t head cells h ∙ lines

@@ -12,7 +12,9 @@ use Rattle.exact.proofs.IntegerOrder.{zarith}
 use Rattle.exact.proofs.Size.{within-of-bounds}
 use Rattle.tree.specs.Box.{Good}
 use Rattle.tree.specs.declared.Axis.the-variants.{X, Y, Z}
+use Rattle.table.specs.declared.Head.{Head}
 use Rattle.table.specs.Table.{Mark}
+use Rattle.table.specs.Bounds.{HeadFits}
 use Rattle.table.specs.Told.{Told}
 use Rattle.text.specs.Decimal.{decimal, signedDecimal}
 use Rattle.text.specs.Listing.{headLine, cornerText, cellLine, cellLines, listing}
@@ -49,9 +51,16 @@ unfolding cellLines
 lines [] s = omega arith
 lines (m ∷ ms) s = omega (arith, length-append (cellLine m) (cellLines ms), line m (s .0), lines ms (s .1))
 
-head : (a b c d : ℕ) → a < 4294967296 → b < 4294967296 → c < 18446744073709551616 → d < 18446744073709551616 → length (headLine a b c d) ≤ 64
-head a b c d ha hb hc hd =
-    omega (arith, length-head a b c d, few-digits 9 a (omega arith), few-digits 9 b (omega arith), few-digits 19 c (omega arith), few-digits 19 d (omega arith))
+head : (h : Head) → HeadFits h → length (headLine h) ≤ 64
+head h f =
+    omega (
+      arith,
+      length-head h,
+      few-digits 9 (h .cells) (omega (arith, f .cells)),
+      few-digits 9 (h .evaluated) (omega (arith, f .evaluated)),
+      few-digits 19 (h .solid) (omega (arith, f .solid)),
+      few-digits 19 (h .«open») (omega (arith, f .«open»)),
+    )
 
 -- a cell of the tree is short
 low-within : {l h : ℤ} → l <ℤ h → negsuc 1048575 ≤ℤ l → h ≤ℤ pos 1048576 → Within 1048576 l
@@ -72,16 +81,10 @@ good-short m h g = record {
 }
 
 -- what is printed of a table is what the table tells
-pub listing-told : (t : List ℕ) (evaluated solid vacant : ℕ) (ms : List Mark) → Told t evaluated solid vacant ms
-    → listing t ≡ headLine (length ms) evaluated solid vacant ++ cellLines ms
+pub listing-told : (t : List ℕ) (h : Head) (ms : List Mark) → Told t h ms → listing t ≡ headLine h ++ cellLines ms
 unfolding listing
-listing-told t evaluated solid vacant ms h =
-    λ i. headLine (h .cells-are i) (h .evaluated-is i) (h .solid-is i) (h .open-is i) ++ cellLines (h .marks-are i)
+listing-told t h ms r = λ i. headLine (r .head-is i) ++ cellLines (r .marks-are i)
 
-pub listing-fits : (t : List ℕ) (evaluated solid vacant : ℕ) (ms : List Mark) → Told t evaluated solid vacant ms
-    → length ms ≤ 2047 → evaluated < 4294967296 → solid < 18446744073709551616 → vacant < 18446744073709551616 → AllShort ms
-    → length (listing t) ≤ 131072
-listing-fits t evaluated solid vacant ms h n e s v short =
-    let first = head (length ms) evaluated solid vacant (omega arith) e s v in
-    rw (listing-told t evaluated solid vacant ms h, length-append (headLine (length ms) evaluated solid vacant) (cellLines ms))
-    (omega (arith, first, lines ms short))
+pub listing-fits : (t : List ℕ) (h : Head) (ms : List Mark) → Told t h ms → HeadFits h → length ms ≤ 2047 → AllShort ms → length (listing t) ≤ 131072
+listing-fits t h ms r f n short =
+    rw (listing-told t h ms r, length-append (headLine h) (cellLines ms)) (omega (arith, head h f, lines ms short))

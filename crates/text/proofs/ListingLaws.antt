@@ -6,8 +6,9 @@ use native.Mathlib.Nat.{add-zero}
 use native.Mathlib.Omega.{arith}
 use lib.IntN.{ℤ}
 use lib.ListN.{length, length-append}
+use Rattle.table.specs.declared.Head.{Head}
 use Rattle.table.specs.Table.{Mark}
-use Rattle.table.specs.Read.{u32At, firstIn, cellsIn, evaluatedIn, solidIn, openIn, markIn, chain}
+use Rattle.table.specs.Read.{u32At, headIn, markIn, chain}
 use Rattle.table.proofs.ReadLaws.{mark-is, chain-end, chain-step}
 use Rattle.text.specs.Decimal.{decimal, signedDecimal}
 use Rattle.text.specs.Listing.{spaced, refusedText, headLine, cornerText, cellLine, cellLines, listing}
@@ -17,12 +18,15 @@ pub length-refused : (n : ℕ) → length (refusedText n) ≡ length (decimal n)
 unfolding refusedText
 length-refused n = simp length-append (omega arith)
 
-pub head-is : (a b c d : ℕ) → headLine a b c d ≡ decimal a ++ spaced (decimal b) ++ spaced (decimal c) ++ spaced (decimal d) ++ (10 ∷ [])
+pub head-is : (h : Head)
+    → headLine h ≡ decimal (h .cells) ++ spaced (decimal (h .evaluated)) ++ spaced (decimal (h .solid)) ++ spaced (decimal (h .«open»)) ++ (10 ∷ [])
 unfolding headLine
-head-is a b c d = refl
+head-is h = refl
 
-pub length-head : (a b c d : ℕ) → length (headLine a b c d) ≡ length (decimal a) + length (decimal b) + length (decimal c) + length (decimal d) + 4
-length-head a b c d = rw head-is (simp length-append (omega arith))
+pub length-head : (h : Head)
+    → length (headLine h)
+    ≡ length (decimal (h .cells)) + length (decimal (h .evaluated)) + length (decimal (h .solid)) + length (decimal (h .«open»)) + 4
+length-head h = rw head-is (simp length-append (omega arith))
 
 pub corner-is : (x y z : ℤ) → cornerText x y z ≡ spaced (signedDecimal x) ++ spaced (signedDecimal y) ++ spaced (signedDecimal z)
 unfolding cornerText
@@ -64,12 +68,11 @@ pub length-cells-step : (n : ℕ) (t : List ℕ) (slot : ℕ) {next : ℕ} → 0
     → length (cellLines (chain n t slot)) ≡ length (cellLine (markIn t slot)) + length (cellLines (chain (n - 1) t next))
 length-cells-step n t slot {next} h e = rw (cells-step n t slot h e) (length-append (cellLine (markIn t slot)) (cellLines (chain (n - 1) t next)))
 
--- ---- the whole, with its numbers as they are read
-module _ (t : List ℕ) {first cells evaluated solid vacant : ℕ} (f : first ≡ firstIn t) (n : cells ≡ cellsIn t) (e : evaluated ≡ evaluatedIn t)
-    (s : solid ≡ solidIn t) (v : vacant ≡ openIn t) where
-  pub listing-is : listing t ≡ headLine cells evaluated solid vacant ++ cellLines (chain cells t first)
+-- ---- the whole, with slot 0 as it is read
+module _ (t : List ℕ) {h : Head} (e : h ≡ headIn t) where
+  pub listing-is : listing t ≡ headLine h ++ cellLines (chain (h .cells) t (h .first))
   unfolding listing
-  listing-is = sym (λ i. headLine (n i) (e i) (s i) (v i) ++ cellLines (chain (n i) t (f i)))
+  listing-is = ap (λ (k : Head). headLine k ++ cellLines (chain (k .cells) t (k .first))) (sym e)
 
-  pub length-listing : length (listing t) ≡ length (headLine cells evaluated solid vacant) + length (cellLines (chain cells t first))
-  length-listing = rw listing-is (length-append (headLine cells evaluated solid vacant) (cellLines (chain cells t first)))
+  pub length-listing : length (listing t) ≡ length (headLine h) + length (cellLines (chain (h .cells) t (h .first)))
+  length-listing = rw listing-is (length-append (headLine h) (cellLines (chain (h .cells) t (h .first))))

@@ -5,8 +5,9 @@ use mathlib.Core.List.{List, [], _∷_, _++_}
 use Prim.Native.Nat.{ℕ, _≤_}
 use lib.IntN.{ℤ}
 use lib.ListN.{length, take}
+use Rattle.table.specs.declared.Head.{Head}
 use Rattle.table.specs.Table.{Mark}
-use Rattle.table.specs.Read.{cellsIn, evaluatedIn, solidIn, openIn, marksIn}
+use Rattle.table.specs.Read.{headIn, marksIn}
 use Rattle.text.specs.Ascii.{ascii, space, newline}
 use Rattle.text.specs.Decimal.{decimal, signedDecimal}
 
@@ -19,9 +20,9 @@ unfoldable pub refusedText : ℕ → List ℕ
 refusedText n = ascii "refused" ++ spaced (decimal n) ++ (newline ∷ [])
 
 -- "cells, evaluated, solid, open"
-unfoldable pub headLine : ℕ → ℕ → ℕ → ℕ → List ℕ
-headLine cells evaluated solid vacant =
-    decimal cells ++ spaced (decimal evaluated) ++ spaced (decimal solid) ++ spaced (decimal vacant) ++ (newline ∷ [])
+unfoldable pub headLine : Head → List ℕ
+headLine h =
+    decimal (h .cells) ++ spaced (decimal (h .evaluated)) ++ spaced (decimal (h .solid)) ++ spaced (decimal (h .«open»)) ++ (newline ∷ [])
 
 -- "state, lows, highs"
 unfoldable pub cornerText : ℤ → ℤ → ℤ → List ℕ
@@ -41,7 +42,7 @@ cellLines (m ∷ ms) = cellLine m ++ cellLines ms
 
 -- what is printed of a table: its cells in the order of its chain
 unfoldable pub listing : List ℕ → List ℕ
-listing t = headLine (cellsIn t) (evaluatedIn t) (solidIn t) (openIn t) ++ cellLines (marksIn t)
+listing t = headLine (headIn t) ++ cellLines (marksIn t)
 
 -- so many bytes at the front of a buffer. The second part follows from the first; a caller's `&out[..r]` asks for both
 abbrev pub Front : ℕ → List ℕ → Type 0

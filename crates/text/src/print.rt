@@ -15,9 +15,10 @@ use crate::ascii::MINUS;
 use crate::ascii::NEWLINE;
 use crate::ascii::NOUGHT;
 use crate::ascii::SPACE;
+use table::Head;
+use table::get::head_of;
 use table::get::i32_at;
 use table::get::u32_at;
-use table::get::u64_at;
 
 fn put_byte(out: &mut [u8], at: usize, b: usize) -> usize
     requires { ⌜ at + 1 ≤ length (now out) ⌝ }
@@ -161,14 +162,14 @@ fn put_cells(table: &[u8], first: usize, cells: usize, out: &mut [u8], from: usi
 }
 
 // The first line.
-fn put_head(out: &mut [u8], cells: usize, evaluated: usize, solid: usize, vacant: usize) -> usize
-    requires { ⌜ length (headLine cells evaluated solid vacant) ≤ length (now out) ⌝ }
-    ensures { λ r. ⌜ Appended (now (out .entry)) 0 (headLine cells evaluated solid vacant) (now (out .exit)) r ⌝ }
+fn put_head(out: &mut [u8], at: usize, head: Head) -> usize
+    requires { ⌜ at + length (headLine head) ≤ length (now out) ⌝ }
+    ensures { λ r. ⌜ Appended (now (out .entry)) at (headLine head) (now (out .exit)) r ⌝ }
 {
-    let second = put_decimal(out, 0, cells);
-    let third = put_spaced(out, second, evaluated);
-    let fourth = put_spaced(out, third, solid);
-    let end = put_spaced(out, fourth, vacant);
+    let second = put_decimal(out, at, head.cells);
+    let third = put_spaced(out, second, head.evaluated);
+    let fourth = put_spaced(out, third, head.solid);
+    let end = put_spaced(out, fourth, head.open);
     put_byte(out, end, NEWLINE)
 }
 
@@ -179,15 +180,9 @@ pub fn put_listing(table: &[u8; 65536], out: &mut [u8; 131072]) -> usize
     ensures end { λ r. ⌜ r ≡ length (listing (now (table .entry))) ⌝ }
     ensures front { λ r. ⌜ Front r (now (out .exit)) ⌝ }
 {
-    let cells = u32_at(table, 4);
-    let head = put_head(
-        out,
-        cells,
-        u32_at(table, 8),
-        u64_at(table, 12),
-        u64_at(table, 20),
-    );
-    put_cells(table, u32_at(table, 0), cells, out, head)
+    let head = head_of(table);
+    let second = put_head(out, 0, head);
+    put_cells(table, head.first, head.cells, out, second)
 }
 
 // What is printed of a refusal.

@@ -26,12 +26,13 @@ use Rattle.tree.specs.Tree.{leaves}
 use Rattle.tree.proofs.HalfLaws.{by-axis}
 use Rattle.tree.proofs.TickLaws.{ticks-good}
 use Rattle.tree.proofs.CountLaws.{length-cells}
+use Rattle.table.specs.declared.Head.{Head}
 use Rattle.table.specs.Table.{headBytes, cellsBytes, tableBytes}
 use Rattle.table.proofs.Written.{written}
 use Rattle.walk.specs.Walk
 use Rattle.walk.specs.Walk.{spans, depths, entryRefusal}
 use Rattle.walk.specs.InUse.{roomRefusal, roomTable, walkNumber, walkTable}
-use Rattle.walk.specs.FunctionsInUse.{settled, cellsOf, evaluatedOf, solidOf, marksOf}
+use Rattle.walk.specs.FunctionsInUse.{settled, cellsOf, evaluatedOf, solidOf, marksOf, headOf}
 use Rattle.walk.proofs.MarkLaws.{marks-leaves}
 
 -- ---- what the refusals before 13 leave
@@ -88,13 +89,17 @@ module _ (g : Gyroid) (D : ℕ) (b : Box) (len : ℕ) {total : ℕ} (cells-are :
 
   -- the table holds them
   pub room-done : {ev solid vacant : ℕ} {z h r : List ℕ} → total + 1 ≤ len / 32 → ev ≡ evaluatedOf g D b → solid ≡ solidOf g D b → vacant ≡ volume b - solid
-      → z ≡ replicate len 0 → h ≡ sets z 0 (headBytes total ev solid vacant) → r ≡ sets h 32 (cellsBytes total 1 (marksOf g (cellsOf g D b)))
+      → z ≡ replicate len 0 → h ≡ sets z 0 (headBytes (record { first = 1; cells = total; evaluated = ev; solid = solid; «open» = vacant }))
+      → r ≡ sets h 32 (cellsBytes total 1 (marksOf g (cellsOf g D b)))
       → (0 ≡ roomRefusal g D b len) × (r ≡ roomTable g D b len)
   unfolding Walk.roomRefusal Walk.roomTable Walk.tableOf
   room-done {ev} {solid} {vacant} fits e1 e2 e3 ez eh er =
       let e = ap (λ (n : ℕ). ltb (len / 32) (n + 1)) counted ∙ le-ltb (len / 32) (total + 1) fits in
-      let w = written len total ev solid vacant (marksOf g (cellsOf g D b)) ez eh er (marks-leaves inUse g D 0 b ∙ sym cells-are) (omega (arith, fits)) in
-      (rw e, rw e (w ∙ (λ i. tableBytes len (e1 i) (e2 i) ((e3 ∙ ap (λ (n : ℕ). volume b - n) e2) i) (marksOf g (cellsOf g D b)))))
+      let w = written len total _ (marksOf g (cellsOf g D b)) ez eh er (marks-leaves inUse g D 0 b ∙ sym cells-are) (omega (arith, fits)) in
+      let rest = e3 ∙ ap (λ (n : ℕ). volume b - n) e2 in
+      let head : record { first = 1; cells = total; evaluated = ev; solid = solid; «open» = vacant } ≡ headOf g D b =
+      λ i. record { first = 1; cells = sym counted i; evaluated = e1 i; solid = e2 i; «open» = rest i } in
+      (rw e, rw e (w ∙ ap (λ (h : Head). tableBytes len h (marksOf g (cellsOf g D b))) head))
 
 -- ---- what the call returns and leaves, by the refusals before 13
 module _ (d : Description) (lo hi : List ℤ) (D : ℤ) (t : List ℕ) {n : ℕ} (number : n ≡ entryRefusal (refusal d) lo hi D) where

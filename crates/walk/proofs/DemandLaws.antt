@@ -1,6 +1,6 @@
 -- DEMAND 3: of an accepted description, a box of whole ticks within the limits with spans of at least 1, and a depth of 0 to 24, the bytes that the
 -- walk leaves say of the part what document 01 asks. Assumes nothing.
-use mathlib.Core.Path.{_≡_, refl, ap, _∙_, subst, subst⁻¹}
+use mathlib.Core.Path.{_≡_, refl, sym, ap, _∙_, subst, subst⁻¹}
 use mathlib.Core.Bool.{Bool, true, cond, _||_}
 use mathlib.Core.Logic.{_⊎_, inl, inr, ⊎-elim}
 use mathlib.Core.List.{List, [], _∷_}
@@ -24,20 +24,21 @@ use Rattle.tree.specs.Tree.{Cell, leaves}
 use Rattle.tree.specs.Cells.{All, Stopped}
 use Rattle.tree.proofs.LongestLaws.{fair-longest}
 use Rattle.tree.proofs.VolumeLaws.{volume-small}
-use Rattle.tree.proofs.CountLaws.{box-count-leaves, leaves-le, leaves-least, leaves-small, box-count-small}
+use Rattle.tree.proofs.CountLaws.{length-cells, box-count-leaves, leaves-le, leaves-least, leaves-small, box-count-small}
 use Rattle.tree.proofs.SolidLaws.{solid-le}
 use Rattle.tree.proofs.CoverLaws.{cover}
 use Rattle.tree.proofs.StoppedLaws.{stopped}
+use Rattle.table.specs.declared.Head.{Head}
 use Rattle.table.specs.Table.{Mark, tableBytes}
-use Rattle.table.specs.Read.{cellsIn, marksIn}
-use Rattle.table.specs.Bounds.{Fits, AllFit}
+use Rattle.table.specs.Read.{cellsIn, evaluatedIn, solidIn, marksIn}
+use Rattle.table.specs.Bounds.{HeadFits, Fits, AllFit}
 use Rattle.table.specs.Told.{Told}
 use Rattle.table.proofs.BoundLaws.{good-fits}
 use Rattle.table.proofs.ReadBack.{told}
-use Rattle.walk.specs.Walk.{stateAt, isSettled, settled, inside, cellsOf, evaluatedOf, solidOf, openOf, markOf, marksOf, tableOf, roomRefusal, roomTable}
+use Rattle.walk.specs.Walk.{stateAt, isSettled, settled, inside, cellsOf, evaluatedOf, solidOf, markOf, marksOf, headOf, tableOf, roomRefusal, roomTable}
 use Rattle.walk.specs.Demand.{Every, Pairwise, markBoxes, AllBelowZero, AllAboveZero, Undecided, Demand}
 use Rattle.walk.proofs.EndLaws.{lows-ticks, highs-ticks}
-use Rattle.walk.proofs.MarkLaws.{marks-leaves, mark-boxes-are, every, pairwise}
+use Rattle.walk.proofs.MarkLaws.{length-marks, mark-boxes-are, every, pairwise}
 
 -- ---- a state by its number
 number-inside : (s : State) → stateNumber s ≡ 1 → s ≡ Inside
@@ -98,6 +99,9 @@ module _ (ar : Arithmetic) (d : Description) (accepted : Accepted d) (D : ℕ) w
     abbrev cs : List Cell
     cs = cellsOf ar (leaf ar d) D b
 
+    abbrev head : Head
+    head = headOf ar (leaf ar d) D b
+
     abbrev ms : List Mark
     ms = marksOf ar (leaf ar d) cs
 
@@ -110,33 +114,43 @@ module _ (ar : Arithmetic) (d : Description) (accepted : Accepted d) (D : ℕ) w
     all-fit [] q = tt
     all-fit (c ∷ cs) q = (fits c (q .0), all-fit cs (q .1))
 
-    cells-many : length ms ≡ leaves (settled ar (leaf ar d)) longest D b
-    cells-many = marks-leaves ar (leaf ar d) D 0 b
+    cells-many : length cs ≡ leaves (settled ar (leaf ar d)) longest D b
+    cells-many = length-cells (settled ar (leaf ar d)) longest D 0 b
 
-    pub solid-most : solidOf ar (leaf ar d) D b ≤ volume b
+    solid-most : solidOf ar (leaf ar d) D b ≤ volume b
     solid-most = solid-le (inside ar (leaf ar d)) (settled ar (leaf ar d)) longest fair-longest D 0 b good
 
-    pub read : (len : ℕ)
-        → Told (tableBytes len (evaluatedOf ar (leaf ar d) D b) (solidOf ar (leaf ar d) D b) (openOf ar (leaf ar d) D b) ms) (evaluatedOf ar (leaf ar d) D b)
-        (solidOf ar (leaf ar d) D b) (openOf ar (leaf ar d) D b) ms
-    read len =
+    pub head-fits : HeadFits head
+    head-fits =
         let v = volume-small b good in
-        told len (evaluatedOf ar (leaf ar d) D b) (solidOf ar (leaf ar d) D b) (openOf ar (leaf ar d) D b) ms (all-fit cs each)
-        (omega (arith, cells-many, leaves-small (settled ar (leaf ar d)) longest D b shallow))
-        (omega (arith, box-count-small (settled ar (leaf ar d)) longest D b shallow))
-        (omega (arith, solid-most, v)) (omega (arith, v))
+        record {
+          first = omega arith;
+          cells = omega (arith, cells-many, leaves-small (settled ar (leaf ar d)) longest D b shallow);
+          evaluated = omega (arith, box-count-small (settled ar (leaf ar d)) longest D b shallow);
+          solid = omega (arith, solid-most, v);
+          «open» = omega (arith, v);
+        }
+
+    pub read : (len : ℕ) → Told (tableBytes len head ms) head ms
+    read len = told len head ms head-fits (all-fit cs each) refl (sym (length-marks ar (leaf ar d) cs))
 
     -- the tick cubes that a list of the tree's boxes holds
     covered : (x y z : ℤ) → holders x y z (markBoxes ms) ≡ cond (holdsCube x y z b) 1 0
     covered x y z = ap (holders x y z) (mark-boxes-are ar (leaf ar d) cs) ∙ cover (settled ar (leaf ar d)) longest fair-longest x y z D 0 b good
 
     -- ---- what a table says whose reading this is
-    module _ (t : List ℕ) (r : Told t (evaluatedOf ar (leaf ar d) D b) (solidOf ar (leaf ar d) D b) (openOf ar (leaf ar d) D b) ms) where
+    module _ (t : List ℕ) (r : Told t head ms) where
       holders-are : (x y z : ℤ) → holders x y z (markBoxes (marksIn t)) ≡ cond (holdsCube x y z b) 1 0
       holders-are x y z = ap (λ (l : List Mark). holders x y z (markBoxes l)) (r .marks-are) ∙ covered x y z
 
       cells-read : cellsIn t ≡ leaves (settled ar (leaf ar d)) longest D b
-      cells-read = r .cells-are ∙ cells-many
+      cells-read = ap (λ (h : Head). h .cells) (r .head-is) ∙ cells-many
+
+      evaluated-read : evaluatedIn t ≡ evaluatedOf ar (leaf ar d) D b
+      evaluated-read = ap (λ (h : Head). h .evaluated) (r .head-is)
+
+      solid-read : solidIn t ≡ solidOf ar (leaf ar d) D b
+      solid-read = ap (λ (h : Head). h .solid) (r .head-is)
 
       says : Demand ar d b D t
       says = record {
@@ -149,19 +163,19 @@ module _ (ar : Arithmetic) (d : Description) (accepted : Accepted d) (D : ℕ) w
         walk-order = subst⁻¹ (λ (l : List Mark). Pairwise (λ m c. m .box ≡ c .box) l cs) (r .marks-are) (pairwise ar (leaf ar d) _ _ (λ c m. refl) cs each);
         marked = subst⁻¹ (Every (λ m. (m .state ≡ 3 → ⊥) → (m .state ≡ 1) ⊎ (m .state ≡ 2))) (r .marks-are)
             (every ar (leaf ar d) _ _ (λ c m. number-other (stateAt ar (leaf ar d) (c .box))) cs each);
-        evaluated = omega (arith, r .evaluated-is, cells-read, box-count-leaves (settled ar (leaf ar d)) longest D b);
+        evaluated = omega (arith, evaluated-read, cells-read, box-count-leaves (settled ar (leaf ar d)) longest D b);
         evaluated-most = omega (
           arith,
-          r .evaluated-is,
+          evaluated-read,
           box-count-leaves (settled ar (leaf ar d)) longest D b,
           leaves-le (settled ar (leaf ar d)) longest D b,
           two-pow-succ D,
         );
-        evaluated-tree = r .evaluated-is;
-        first = r .first-is;
-        ends = r .ends (omega (arith, cells-many, leaves-least (settled ar (leaf ar d)) longest D b));
-        solid = r .solid-is;
-        rest = omega (arith, r .solid-is, r .open-is, solid-most);
+        evaluated-tree = evaluated-read;
+        first = ap (λ (h : Head). h .first) (r .head-is);
+        ends = r .ends (omega (arith, length-marks ar (leaf ar d) cs, cells-many, leaves-least (settled ar (leaf ar d)) longest D b));
+        solid = solid-read;
+        rest = omega (arith, solid-read, ap (λ (h : Head). h .«open») (r .head-is), solid-most);
       }
 
     -- DEMAND 3 of what an accepted walk leaves

@@ -2,7 +2,7 @@
 -- Assumes nothing.
 use mathlib.Core.Path.{_≡_, subst⁻¹}
 use mathlib.Core.List.{List}
-use Prim.Native.Nat.{ℕ, _+_, _/_, _≤_, _<_}
+use Prim.Native.Nat.{ℕ, _+_, _/_, _≤_}
 use native.Mathlib.Omega.{arith}
 use lib.Dec.{ltb, nltb→le}
 use lib.IntN.{ℤ, natAbs}
@@ -18,17 +18,17 @@ use Rattle.gyroid.specs.Refusals.{refusal}
 use Rattle.gyroid.specs.Fits.{Accepted}
 use Rattle.gyroid.specs.Leaf.{leaf}
 use Rattle.gyroid.specs.Residual.{stateNumber}
-use Rattle.tree.specs.Box.{Box, Good, boxFrom, longest}
-use Rattle.tree.proofs.VolumeLaws.{volume-small}
-use Rattle.tree.proofs.CountLaws.{box-count-small}
+use Rattle.tree.specs.Box.{Box, Good, boxFrom}
+use Rattle.table.specs.declared.Head.{Head}
 use Rattle.table.specs.Table.{Mark}
+use Rattle.table.specs.Bounds.{HeadFits}
 use Rattle.table.specs.Told.{Told}
-use Rattle.walk.specs.Walk.{stateAt, settled, cellsOf, evaluatedOf, solidOf, openOf, marksOf, tableOf}
+use Rattle.walk.specs.Walk.{stateAt, cellsOf, marksOf, headOf, tableOf}
 use Rattle.walk.specs.Walk.{entryRefusal, roomRefusal, roomTable, walkNumber, walkTable}
 use Rattle.walk.specs.Demand.{Every}
 use Rattle.walk.proofs.CallLaws.{entered}
 use Rattle.walk.proofs.MarkLaws.{every, length-marks}
-use Rattle.walk.proofs.DemandLaws.{each, read, solid-most}
+use Rattle.walk.proofs.DemandLaws.{each, head-fits, read}
 
 -- one of document 01's three states, and a box of the tree
 pub record InTree (m : Mark) : Type 0 where
@@ -36,12 +36,10 @@ pub record InTree (m : Mark) : Type 0 where
   pub good : Good (m .box)
 
 -- of the bytes t, which have so many slots: what they tell, and its sizes
-pub record Tells (slots : ℕ) (t : List ℕ) (evaluated solid vacant : ℕ) (ms : List Mark) : Type 0 where
-  pub told : Told t evaluated solid vacant ms
+pub record Tells (slots : ℕ) (t : List ℕ) (h : Head) (ms : List Mark) : Type 0 where
+  pub told : Told t h ms
   pub fits : length ms + 1 ≤ slots
-  pub evaluated-small : evaluated < 4294967296
-  pub solid-small : solid < 18446744073709551616
-  pub open-small : vacant < 18446744073709551616
+  pub head-fits : HeadFits h
   pub marks : Every InTree ms
 
 number-most : (s : State) → stateNumber s ≤ 3
@@ -75,22 +73,17 @@ module _ (ar : Arithmetic) (d : Description) (lo hi : List ℤ) (D : ℤ) (t : L
   table-is e r = rw (eq-eqb _ 0 e, eq-eqb _ 0 r)
 
   pub tells : walkNumber ar d lo hi D (length t) ≡ 0
-      → Tells (length t / 32) (walkTable ar d lo hi D t) (evaluatedOf ar (leaf ar d) depth b) (solidOf ar (leaf ar d) depth b)
-      (openOf ar (leaf ar d) depth b) ms
+      → Tells (length t / 32) (walkTable ar d lo hi D t) (headOf ar (leaf ar d) depth b) ms
   unfolding walkNumber tableOf
   tells none =
       let (e, r) = neither (entryRefusal (refusal d) lo hi D) (roomRefusal ar (leaf ar d) depth b (length t)) none in
       let h = entered (refusal d) lo hi D e in
       let accepted : Accepted d = record { none = h .described } in
-      let v = volume-small b (h .good) in
       record {
-        told = subst⁻¹ (λ (u : List ℕ). Told u (evaluatedOf ar (leaf ar d) depth b) (solidOf ar (leaf ar d) depth b)
-            (openOf ar (leaf ar d) depth b) ms) (table-is e r)
+        told = subst⁻¹ (λ (u : List ℕ). Told u (headOf ar (leaf ar d) depth b) ms) (table-is e r)
             (read ar d accepted depth (h .depth-most) b (h .good) (length t));
         fits = room-left ar (leaf ar d) depth b (length t) r;
-        evaluated-small = omega (arith, box-count-small (settled ar (leaf ar d)) longest depth b (h .depth-most));
-        solid-small = omega (arith, v, solid-most ar d accepted depth (h .depth-most) b (h .good));
-        open-small = omega (arith, v);
+        head-fits = head-fits ar d accepted depth (h .depth-most) b (h .good);
         marks = every ar (leaf ar d) InTree _ (λ c m. record { state = number-most (stateAt ar (leaf ar d) (c .box)); good = m .good })
             (cellsOf ar (leaf ar d) depth b)
             (each ar d accepted depth (h .depth-most) b (h .good));

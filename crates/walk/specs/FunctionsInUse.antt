@@ -7,6 +7,7 @@ use Rattle.gyroid.specs.declared.Gyroid.{Gyroid}
 use Rattle.gyroid.specs.declared.State.{State}
 use Rattle.tree.specs.Box.{Box}
 use Rattle.tree.specs.Tree.{Cell}
+use Rattle.table.specs.declared.Head.{Head}
 use Rattle.table.specs.Table.{Mark}
 use Rattle.walk.specs.Walk
 
@@ -30,3 +31,6 @@ solidOf = Walk.solidOf inUse
 
 abbrev pub marksOf : Gyroid → List Cell → List Mark
 marksOf = Walk.marksOf inUse
+
+abbrev pub headOf : Gyroid → ℕ → Box → Head
+headOf = Walk.headOf inUse

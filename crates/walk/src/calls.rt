@@ -17,6 +17,7 @@ use grade::refusals::refused;
 use gyroid::Description;
 use gyroid::Gyroid;
 use gyroid::parts::joined_state;
+use table::Head;
 use table::put::put_head;
 use table::put::zero;
 use tree::ShiftedBox;
@@ -75,7 +76,17 @@ fn run(g: Gyroid, b: ShiftedBox, depth: usize, table: &mut [u8]) -> u32
     if table.len() / 32 < total + 1 {
         return 13;
     }
-    put_head(table, total, evaluated, n.solid, b.volume() - n.solid);
+    let open = b.volume() - n.solid;
+    put_head(
+        table,
+        Head {
+            first: 1,
+            cells: total,
+            evaluated,
+            solid: n.solid,
+            open,
+        },
+    );
     fill(g, root, depth, table, 1, total);
     0
 }

@@ -28,14 +28,14 @@ same-length c = search needs
 returns : tie.Need-returns
 returns c =
     let end = c .before .before in
-    let vacant = end .before .before .before .before in
-    let solid = vacant .before .before .before .before in
+    let rest = end .before .before .before .before in
+    let solid = rest .before .before .before .before in
     let evaluated = solid .before .before .before .before in
     let cells = evaluated .before .before .before .before in
     let first = cells .before .before .before .before in
     let a = first .before .before .before .args in
-    head-stored (a .t .now) (a .cells) (a .evaluated) (a .solid) (a .vacant) (first .put-u32 .ensures) (cells .put-u322 .ensures) (evaluated .put-u323 .ensures)
-    (solid .put-u64 .ensures) (vacant .put-u642 .ensures) (end .put-u324 .ensures)
+    head-stored (a .t .now) (a .head) (first .put-u32 .ensures) (cells .put-u322 .ensures) (evaluated .put-u323 .ensures) (solid .put-u64 .ensures)
+    (rest .put-u642 .ensures) (end .put-u324 .ensures)
 
 pub put-head-spec : {M : Type 1} → statement M
 put-head-spec =

@@ -23,14 +23,14 @@ third c = c .before .before .before .before
 put-decimal-requires : tie.Need-put-decimal-requires
 put-decimal-requires c κs =
     let s = c .before .before in
-    let n = length-head (s .args .cells) (s .args .evaluated) (s .args .solid) (s .args .vacant) in
+    let n = length-head (s .args .head) in
     omega (arith, s .pre, n)
 
 put-spaced-requires : tie.Need-put-spaced-requires
 put-spaced-requires c κs =
     let p1 = c .before .before .before in
     let s = start p1 in
-    let n = length-head (s .args .cells) (s .args .evaluated) (s .args .solid) (s .args .vacant) in
+    let n = length-head (s .args .head) in
     omega (arith, s .pre, n, p1 .put-decimal .ensures .next-is, p1 .put-decimal .kept .0)
 
 put-spaced-requires-2 : tie.Need-put-spaced-requires-2
@@ -38,7 +38,7 @@ put-spaced-requires-2 c κs =
     let p2 = c .before .before .before in
     let p1 = first p2 in
     let s = start p1 in
-    let n = length-head (s .args .cells) (s .args .evaluated) (s .args .solid) (s .args .vacant) in
+    let n = length-head (s .args .head) in
     omega (arith, s .pre, n, p1 .put-decimal .ensures .next-is, p1 .put-decimal .kept .0, p2 .put-spaced .ensures .next-is, p2 .put-spaced .kept .0)
 
 put-spaced-requires-3 : tie.Need-put-spaced-requires-3
@@ -47,7 +47,7 @@ put-spaced-requires-3 c κs =
     let p2 = second p3 in
     let p1 = first p2 in
     let s = start p1 in
-    let n = length-head (s .args .cells) (s .args .evaluated) (s .args .solid) (s .args .vacant) in
+    let n = length-head (s .args .head) in
     omega (
       arith,
       s .pre,
@@ -67,7 +67,7 @@ put-byte-requires c κs =
     let p2 = second p3 in
     let p1 = first p2 in
     let s = start p1 in
-    let n = length-head (s .args .cells) (s .args .evaluated) (s .args .solid) (s .args .vacant) in (
+    let n = length-head (s .args .head) in (
       omega (
         arith,
         s .pre,
@@ -94,7 +94,7 @@ returns c =
     let p2 = second p3 in
     let two = then-appended _ _ (first p2 .put-decimal .ensures) (p2 .put-spaced .ensures) in
     let four = then-appended _ _ (then-appended _ _ two (p3 .put-spaced2 .ensures)) (p4 .put-spaced3 .ensures) in
-    as-appended (head-is _ _ _ _) (then-appended _ _ four (c .before .before .put-byte .ensures))
+    as-appended (head-is _) (then-appended _ _ four (c .before .before .put-byte .ensures))
 
 pub put-head-spec : {M : Type 1} → statement M
 put-head-spec =

@@ -59,9 +59,9 @@ volume-requires : tie.Need-volume-requires
 volume-requires c κs = search needs
 
 -- the inside cells have at most the box's tick cubes
-sub-put-head : tie.Need-sub-put-head
-sub-put-head c =
-    let n = counted (c .before .before .before .before .before .before) in
+sub-open : tie.Need-sub-open
+sub-open c =
+    let n = counted (c .before .before .before .before .before) in
     let s = start n in
     let g = s .args .g in
     let most = solid-le (inside g) (settled g) longest fair-longest (s .args .depth) 0 (boxOf (s .args .b)) (s .pre .0) in
@@ -85,8 +85,8 @@ returns-2 : tie.Need-returns-2
 returns-2 c =
     let f = c .before .before in
     let h = f .before .before .before .before in
-    let v = h .before .before in
-    let e = v .before .before in
+    let v = h .before .before .before in
+    let e = v .before in
     let z = e .before .before .before in
     let n = counted z in
     let a = start n .args in
@@ -97,5 +97,5 @@ returns-2 c =
 pub run-spec : {M : Type 1} → statement M
 run-spec =
     tie.close
-    (tie.spec of-requires (λ _ _. tt) count-requires (λ _ _. tt) add-if1 same-length returns volume-requires sub-put-head
+    (tie.spec of-requires (λ _ _. tt) count-requires (λ _ _. tt) add-if1 same-length returns volume-requires sub-open
     put-head-requires fill-requires same-length-2 returns-2)
