@@ -2,6 +2,7 @@
 pub mod Stores
 pub mod Words
 pub mod Slots
+pub mod PlacedLaws
 pub mod Written
 pub mod BoundLaws
 -- what is read, step by step

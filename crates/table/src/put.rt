@@ -2,20 +2,21 @@
 // byte stays as it was.
 ghost use mathlib.Core.Path.{_≡_};
 ghost use mathlib.Core.List.{_++_};
-ghost use Prim.Native.Nat.{_+_, _*_, _≤_, _<_};
+ghost use Prim.Native.Nat.{_+_, _-_, _*_, _≤_, _<_};
 ghost use lib.ListN.{length, replicate};
 ghost use lib.Seq.{sets};
 ghost use Rattle.tree.specs.Box.{unshifted, boxOf};
-ghost use Rattle.table.specs.Table.{word4, word8, bits, headBytes, cellBytes, nextSlot};
+ghost use Rattle.table.specs.Table.{word4, word8, bits, headBytes, cellBytes};
 ghost use Rattle.table.specs.Bounds.{WithinTicks};
 use crate::Head;
 use tree::ShiftedBox;
 
-// Sets every byte to zero.
-pub fn zero(t: &mut [u8])
-    ensures { λ _. ⌜ now (t .exit) ≡ replicate (length (now (t .entry))) 0 ⌝ }
+// Sets every byte from an index on to zero.
+pub fn zero(t: &mut [u8], from: usize)
+    requires { ⌜ from ≤ length (now t) ⌝ }
+    ensures { λ _. ⌜ now (t .exit) ≡ sets (now (t .entry)) from (replicate (length (now (t .entry)) - from) 0) ⌝ }
 {
-    let mut i = 0;
+    let mut i = from;
     while i < t.len() {
         t[i] = 0;
         i += 1;
@@ -87,15 +88,4 @@ pub fn put_cell(t: &mut [u8], slot: usize, next: usize, state: usize, b: Shifted
     put_u32(t, at + 4, state);
     put_corner(t, at + 8, b.lx, b.ly, b.lz);
     put_corner(t, at + 20, b.hx, b.hy, b.hz);
-}
-
-// The slot after `slot` in the chain, or zero after the last of `total` cells.
-pub fn next_slot(slot: usize, total: usize) -> usize
-    requires { ⌜ slot < 18446744073709551615 ⌝ }
-    ensures { λ r. ⌜ r ≡ nextSlot total slot ⌝ }
-{
-    if slot == total {
-        return 0;
-    }
-    slot + 1
 }

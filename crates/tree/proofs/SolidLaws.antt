@@ -1,14 +1,14 @@
 -- The tick cubes of the cells that have a property, as "solid volume" counts them: of a cell, of two halves, and never more than the box has.
 -- Assumes nothing.
-use mathlib.Core.Path.{_≡_, ap, _∙_}
+use mathlib.Core.Path.{_≡_, refl, ap, _∙_}
 use mathlib.Core.Bool.{Bool, true, false, cond}
 use mathlib.Core.List.{List, [], _∷_, _++_}
-use Prim.Native.Nat.{ℕ, suc, _+_, _-_, _≤_}
+use Prim.Native.Nat.{ℕ, zero, suc, _+_, _-_, _≤_}
 use native.Mathlib.Nat.{add-zero}
 use native.Mathlib.Omega.{arith}
 use Rattle.tree.specs.declared.Axis.{Axis}
 use Rattle.tree.specs.Box.{Box, Good, volume}
-use Rattle.tree.specs.Tree.{Cell, lowerHalf, upperHalf, cells, Fair, volumeOf}
+use Rattle.tree.specs.Tree.{Cell, stops, lowerHalf, upperHalf, cells, Fair, volumeOf}
 use Rattle.tree.proofs.StepLaws.{IsCell, IsHalved}
 use Rattle.tree.proofs.TreeInduction.{tree-ind}
 use Rattle.tree.proofs.VolumeLaws.{volume-halves}
@@ -46,3 +46,23 @@ module _ (inside : Box → Bool) where
         tree-ind settled axis fair (λ d k b cs. volumeOf inside cs ≤ volume b)
         (λ k b g. solid-one-le (record { box = b; depth = k })) (λ d k b g e. solid-one-le (record { box = b; depth = k }))
         (λ d k b cs ds g e p q. omega (arith, solid-append cs ds, volume-halves (axis b) b g))
+
+    -- the depths of the cells do not count
+    pub solid-any : (d k j : ℕ) (b : Box) → volumeOf inside (cells settled axis d k b) ≡ volumeOf inside (cells settled axis d j b)
+    unfolding cells volumeOf
+    solid-any zero k j b = refl
+    solid-any (suc d) k j b =
+        by-stop (stops settled axis b) (cells settled axis d (suc k) l) (cells settled axis d (suc k) h) (cells settled axis d (suc j) l)
+        (cells settled axis d (suc j) h) (solid-any d (suc k) (suc j) l) (solid-any d (suc k) (suc j) h)
+      where
+        l : Box
+        l = lowerHalf settled axis b
+
+        h : Box
+        h = upperHalf settled axis b
+
+        by-stop : (t : Bool) (cs ds es fs : List Cell) → volumeOf inside cs ≡ volumeOf inside es → volumeOf inside ds ≡ volumeOf inside fs
+            → volumeOf inside (cond t (record { box = b; depth = k } ∷ []) (cs ++ ds))
+            ≡ volumeOf inside (cond t (record { box = b; depth = j } ∷ []) (es ++ fs))
+        by-stop true cs ds es fs e f = refl
+        by-stop false cs ds es fs e f = omega (arith, solid-append cs ds, solid-append es fs)
