@@ -1,39 +1,51 @@
--- What the call `walk` has tested before it walks, and what it leaves. Assumes nothing.
-use mathlib.Core.Path.{_≡_, sym, ap, _∙_}
+-- What a walk has tested before it walks, and what it returns and leaves. Assumes nothing.
+use mathlib.Core.Path.{_≡_, sym, ap, _∙_, subst⁻¹}
 use mathlib.Core.Bool.{not, _&&_}
 use mathlib.Core.List.{List}
-use Prim.Native.Nat.{ℕ, _+_, _-_, _/_, _≤_, _<_}
+use Prim.Native.Nat.{ℕ, _+_, _-_, _*_, _/_, _≤_, _<_}
 use native.Mathlib.Omega.{arith}
-use lib.Dec.{T, eqb, ltb, leb→le}
+use lib.Dec.{T, eqb, leb→le}
 use lib.IntN.{ℤ, pos, negsuc, natAbs}
 use lib.ListN.{length, replicate}
 use lib.Signed.{_<ℤ_, leZ, ltZ, nonNeg, leZ-yes, ltZ-yes, yes-nonNeg}
 use lib.Seq.{sets}
+use mir.Syntax.{w64}
+use mir.Val.{toZ, ofZ, Fits, SFits}
 use borrow.Author.Tests.{lt-ltb, le-ltb, eq-eqb, ne-eqb}
 use Rattle.exact.specs.Within.{Within}
+use Rattle.exact.proofs.Signed.{back, heard}
 use Rattle.grade.specs.Grade.{at, ticks}
 use Rattle.grade.specs.Refusals.{refused, _orElse_}
 use Rattle.grade.proofs.Entries.{both, ticks-within}
 use Rattle.grade.proofs.RefusalLaws.{none-first, none-last, kept, neither}
 use Rattle.grade.specs.InUse.{inUse}
+use Rattle.gyroid.specs.declared.Compiled.{Compiled}
 use Rattle.gyroid.specs.declared.Description.{Description}
 use Rattle.gyroid.specs.declared.Gyroid.{Gyroid}
 use Rattle.gyroid.specs.Refusals.{refusal}
 use Rattle.gyroid.specs.InUse.{leaf}
-use Rattle.tree.specs.Box.{Box, Good, boxFrom, low, high, longest, volume}
+use Rattle.gyroid.specs.FunctionsInUse.{certified}
+use Rattle.gyroid.proofs.LeafLaws.{number-is, leaf-is}
+use Rattle.tree.specs.Box.{Box, Good, boxFrom, low, high, longest}
 use Rattle.tree.specs.InTicks.{InTicks}
 use Rattle.tree.specs.Tree.{leaves}
 use Rattle.tree.proofs.HalfLaws.{by-axis}
 use Rattle.tree.proofs.TickLaws.{ticks-good}
 use Rattle.tree.proofs.CountLaws.{length-cells}
 use Rattle.table.specs.declared.Head.{Head}
-use Rattle.table.specs.Table.{headBytes, cellsBytes, tableBytes}
+use Rattle.table.specs.Table.{Mark, headBytes, tableBytes}
+use Rattle.table.specs.Placed.{placed}
+use Rattle.table.proofs.PlacedLaws.{placed-cells}
 use Rattle.table.proofs.Written.{written}
+use Rattle.walk.specs.declared.Counted.{Counted}
 use Rattle.walk.specs.Walk
 use Rattle.walk.specs.Walk.{spans, depths, entryRefusal}
 use Rattle.walk.specs.InUse.{roomRefusal, roomTable, walkNumber, walkTable}
-use Rattle.walk.specs.FunctionsInUse.{settled, cellsOf, evaluatedOf, solidOf, marksOf, headOf}
+use Rattle.walk.specs.FunctionsInUse.{settled, cellsOf, marksOf}
+use Rattle.walk.specs.Counted.{headWith}
 use Rattle.walk.proofs.MarkLaws.{marks-leaves}
+use Rattle.walk.proofs.CountedLaws.{counted-cells, counted-head}
+use Rattle.walk.proofs.FilledLaws.{HasRoom}
 
 -- ---- what the refusals before 13 leave
 pub record Entered (n : ℕ) (lo hi : List ℤ) (D : ℤ) : Type 0 where
@@ -75,31 +87,29 @@ entered n lo hi D e =
     most (pos n) s t = leb→le n 24 t
     most (negsuc n) s t = absurd s
 
--- ---- behind them
-module _ (g : Gyroid) (D : ℕ) (b : Box) (len : ℕ) {total : ℕ} (cells-are : total ≡ leaves (settled g) longest D b) where
-  counted : length (cellsOf g D b) ≡ total
-  counted = length-cells (settled g) longest D 0 b ∙ sym cells-are
-
+-- ---- behind them, of a table t: the first cell goes to slot 1, the others to the slots from 2 on
+module _ (g : Gyroid) (D : ℕ) (b : Box) (t : List ℕ) where
   -- the cells outgrow the table
-  pub room-refused : {z : List ℕ} → z ≡ replicate len 0 → len / 32 < total + 1 → (13 ≡ roomRefusal g D b len) × (z ≡ roomTable g D b len)
+  pub room-refused : {z : List ℕ} → z ≡ replicate (length t) 0 → length t / 32 + 1 < 2 + leaves (settled g) longest D b
+      → (13 ≡ roomRefusal g D b (length t)) × (z ≡ roomTable g D b (length t))
   unfolding Walk.roomRefusal Walk.roomTable
   room-refused ez h =
-      let e = ap (λ (n : ℕ). ltb (len / 32) (n + 1)) counted ∙ lt-ltb (len / 32) (total + 1) h in
+      let e = lt-ltb (length t / 32) (length (cellsOf g D b) + 1) (omega (arith, length-cells (settled g) longest D 0 b)) in
       (rw e, rw e ez)
 
   -- the table holds them
-  pub room-done : {ev solid vacant : ℕ} {z h r : List ℕ} → total + 1 ≤ len / 32 → ev ≡ evaluatedOf g D b → solid ≡ solidOf g D b → vacant ≡ volume b - solid
-      → z ≡ replicate len 0 → h ≡ sets z 0 (headBytes (record { first = 1; cells = total; evaluated = ev; solid = solid; «open» = vacant }))
-      → r ≡ sets h 32 (cellsBytes total 1 (marksOf g (cellsOf g D b)))
-      → (0 ≡ roomRefusal g D b len) × (r ≡ roomTable g D b len)
+  pub room-done : {c : Counted} {h : Head} {m z r : List ℕ} → HasRoom g D b 2 (length t / 32) c → m ≡ placed t 1 2 0 (marksOf g (cellsOf g D b))
+      → z ≡ sets m (32 * (c .cells + 1)) (replicate (length m - 32 * (c .cells + 1)) 0) → h ≡ headWith c b → r ≡ sets z 0 (headBytes h)
+      → (0 ≡ roomRefusal g D b (length t)) × (r ≡ roomTable g D b (length t))
   unfolding Walk.roomRefusal Walk.roomTable Walk.tableOf
-  room-done {ev} {solid} {vacant} fits e1 e2 e3 ez eh er =
-      let e = ap (λ (n : ℕ). ltb (len / 32) (n + 1)) counted ∙ le-ltb (len / 32) (total + 1) fits in
-      let w = written len total _ (marksOf g (cellsOf g D b)) ez eh er (marks-leaves inUse g D 0 b ∙ sym cells-are) (omega (arith, fits)) in
-      let rest = e3 ∙ ap (λ (n : ℕ). volume b - n) e2 in
-      let head : record { first = 1; cells = total; evaluated = ev; solid = solid; «open» = vacant } ≡ headOf g D b =
-      λ i. record { first = 1; cells = sym counted i; evaluated = e1 i; solid = e2 i; «open» = rest i } in
-      (rw e, rw e (w ∙ ap (λ (h : Head). tableBytes len h (marksOf g (cellsOf g D b))) head))
+  room-done {c} {h} room em ez eh er =
+      let ms : List Mark = marksOf g (cellsOf g D b) in
+      let n = counted-cells g D b (room .counted) in
+      let many = marks-leaves inUse g D 0 b in
+      let fits = room .fits in
+      let e = le-ltb (length t / 32) (length (cellsOf g D b) + 1) (omega (arith, length-cells (settled g) longest D 0 b)) in
+      let w = written (c .cells) h ms t (em ∙ placed-cells t (c .cells) 1 ms (omega (arith, n, many))) ez er (many ∙ sym n) (omega (arith, n)) in
+      (rw e, rw e (w ∙ ap (λ (x : Head). tableBytes (length t) x ms) (eh ∙ counted-head g D b (room .counted))))
 
 -- ---- what the call returns and leaves, by the refusals before 13
 module _ (d : Description) (lo hi : List ℤ) (D : ℤ) (t : List ℕ) {n : ℕ} (number : n ≡ entryRefusal (refusal d) lo hi D) where
@@ -116,3 +126,28 @@ module _ (d : Description) (lo hi : List ℤ) (D : ℤ) (t : List ℕ) {n : ℕ}
   walk-ran h p q =
       let e = ap (λ (k : ℕ). eqb k 0) (sym number) ∙ eq-eqb n 0 h in
       (rw e p, rw e q)
+
+-- ---- as the code has them: a compiled description m, a depth D as the machine's, a box b that was made from its ends
+module _ (d : Description) (lo hi : List ℤ) {D : ℤ} {m : Compiled} (f : SFits w64 D) (made : m ≡ certified d) where
+  -- the number of the refusals before 13
+  pub entry-number : {n : ℕ} → n ≡ entryRefusal (m .refusal) lo hi (toZ w64 (ofZ w64 D)) → n ≡ entryRefusal (refusal d) lo hi D
+  entry-number e = heard (entryRefusal (m .refusal) lo hi) {x = D} f e ∙ ap (λ (k : ℕ). entryRefusal k lo hi D) (number-is d made)
+
+  module _ (t : Entered (refusal d) lo hi D) where
+    -- the depth is one of the machine's numbers without a sign, and at most 24
+    pub depth-cast : T (nonNeg (toZ w64 (ofZ w64 D))) × Fits w64 (natAbs (toZ w64 (ofZ w64 D)))
+    depth-cast =
+        subst⁻¹ (λ (z : ℤ). T (nonNeg z) × Fits w64 (natAbs z)) (back {x = D} f) (t .depth-sign, record { fits = omega (arith, t .depth-most) })
+
+    pub depth-small : natAbs (toZ w64 (ofZ w64 D)) ≤ 24
+    depth-small = subst⁻¹ (λ (z : ℤ). natAbs z ≤ 24) (back {x = D} f) (t .depth-most)
+
+    -- what the walk behind the refusals says
+    module _ {b : Box} (box : b ≡ boxFrom lo hi) (len : ℕ) where
+      pub ran-number : {r : ℕ} → r ≡ roomRefusal (m .leaf) (natAbs (toZ w64 (ofZ w64 D))) b len
+          → r ≡ roomRefusal (leaf d) (natAbs D) (boxFrom lo hi) len
+      ran-number e = e ∙ (λ i. roomRefusal (leaf-is d made (t .described) i) (natAbs (back {x = D} f i)) (box i) len)
+
+      pub ran-table : {u : List ℕ} → u ≡ roomTable (m .leaf) (natAbs (toZ w64 (ofZ w64 D))) b len
+          → u ≡ roomTable (leaf d) (natAbs D) (boxFrom lo hi) len
+      ran-table e = e ∙ (λ i. roomTable (leaf-is d made (t .described) i) (natAbs (back {x = D} f i)) (box i) len)

@@ -2,7 +2,10 @@
 mod PartLaws
 mod StepLaws
 mod MarkLaws
-mod CallLaws
+-- what is counted, what the writer answers, and what a walk returns and leaves: for this one and for others
+pub mod CountedLaws
+pub mod FilledLaws
+pub mod CallLaws
 pub mod EndLaws
 pub mod DemandLaws
 -- what demand 3 supposes is what no refusal leaves, both ways

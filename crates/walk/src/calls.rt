@@ -1,5 +1,5 @@
-// The public call `walk`: it compiles its description, refuses by document 01's numbers, counts the whole tree and only then writes. It keeps
-// nothing.
+// The public call `walk`: it compiles its description, refuses by document 01's numbers and writes the cells as it comes to them; where they
+// outgrow the table it leaves every byte zero. It keeps nothing.
 ghost use mathlib.Core.Path.{_≡_};
 ghost use Prim.Native.Nat.{_≤_};
 ghost use lib.IntN.{natAbs};
@@ -7,17 +7,14 @@ ghost use lib.ListN.{length};
 ghost use Rattle.tree.specs.Box.{Good, boxOf, boxFrom};
 ghost use Rattle.walk.specs.Walk.{spans, depths, entryRefusal};
 ghost use Rattle.walk.specs.InUse.{roomRefusal, roomTable, walkNumber, walkTable, Supposed, Demand};
+use crate::Filled;
 use crate::Node;
-use crate::Parts;
 use crate::fill::fill;
-use crate::tally::count;
 use grade::limits::ticks;
 use grade::refusals::or_else;
 use grade::refusals::refused;
 use gyroid::Description;
 use gyroid::Gyroid;
-use gyroid::parts::joined_state;
-use table::Head;
 use table::put::put_head;
 use table::put::zero;
 use tree::ShiftedBox;
@@ -36,7 +33,7 @@ fn depths(depth: i64) -> bool
 }
 
 // The refusals before 13, of a description that `description` refuses.
-fn entries(description: u32, lo: [i64; 3], hi: [i64; 3], depth: i64) -> u32
+pub fn entries(description: u32, lo: [i64; 3], hi: [i64; 3], depth: i64) -> u32
     ensures { λ r. ⌜ r ≡ entryRefusal description lo hi depth ⌝ }
 {
     let limits = refused(!(ticks(lo) & ticks(hi)), 1);
@@ -52,42 +49,13 @@ fn run(g: Gyroid, b: ShiftedBox, depth: usize, table: &mut [u8]) -> u32
     ensures answer { λ r. ⌜ r ≡ roomRefusal g depth (boxOf b) (length (now (table .entry))) ⌝ }
     ensures left { λ _. ⌜ now (table .exit) ≡ roomTable g depth (boxOf b) (length (now (table .entry))) ⌝ }
 {
-    let p = Parts::of(g, b);
-    let surface = g.surface;
-    let levels = g.intervals;
-    let root = Node {
-        b,
-        p,
-        s: joined_state(
-            surface,
-            levels,
-            g.interval_level,
-            g.wave,
-            g.wave_squared,
-            p.x,
-            p.y,
-            p.z,
-        ),
-    };
-    let n = count(g, root, depth);
-    let total = n.cells;
-    let evaluated = n.evaluated;
-    zero(table);
-    if table.len() / 32 < total + 1 {
+    let root = Node::root(g, b);
+    let Filled::Done(n) = fill(g, root, root.look(depth), depth, table, 1, 2, true, 0) else {
+        zero(table, 0);
         return 13;
-    }
-    let open = b.volume() - n.solid;
-    put_head(
-        table,
-        Head {
-            first: 1,
-            cells: total,
-            evaluated,
-            solid: n.solid,
-            open,
-        },
-    );
-    fill(g, root, depth, table, 1, total);
+    };
+    zero(table, 32 * (n.cells + 1));
+    put_head(table, n.head(b));
     0
 }
 

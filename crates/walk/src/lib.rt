@@ -2,8 +2,9 @@
 // table. Here stand the types. `walk` is the public call.
 mod axes; // what each axis of a box gives to its residual
 mod visit; // a box of the tree: what is done at it, and its halves
-mod tally; // the whole tree, counted
-mod fill; // its cells, written
+mod tally; // what a cell counts, and two halves
+pub mod count; // a whole tree, counted
+pub mod fill; // its cells, written
 pub mod calls; // the public call
 
 use gyroid::Part;
@@ -36,4 +37,10 @@ pub struct Counted {
     pub cells: usize,
     pub evaluated: usize,
     pub solid: usize,
+}
+
+// The cells of a tree are written, or the table has no slot for one of them.
+pub enum Filled {
+    Done(Counted),
+    Full,
 }

@@ -1,42 +1,50 @@
-// The whole tree, counted before a byte is written.
+// What one cell counts, what two halves count together, and slot 0 of what is counted.
 ghost use mathlib.Core.Path.{_≡_};
-ghost use Prim.Native.Nat.{ℕ, _≤_};
-ghost use Rattle.tree.specs.Box.{boxOf, longest};
-ghost use Rattle.tree.specs.Tree.{leaves, boxCount, cells, volumeOf};
-ghost use Rattle.walk.specs.FunctionsInUse.{settled, inside};
-ghost use Rattle.walk.specs.Carried.{Stands};
+ghost use Prim.Native.Nat.{_≤_};
+ghost use Rattle.tree.specs.Box.{Good, boxOf, volume};
+ghost use Rattle.walk.specs.Counted.{oneCell, joinedOf, Adds, headWith};
 use crate::Counted;
-use crate::Node;
-use crate::Step;
 use crate::visit::solid;
-use gyroid::Gyroid;
+use gyroid::State;
+use table::Head;
+use tree::ShiftedBox;
 
-// With the depth that is left as the falling number.
-pub fn count(g: Gyroid, n: Node, depth: usize) -> Counted
-    requires { ⌜ Stands g n ⌝ }
-    requires { ⌜ depth ≤ 24 ⌝ }
-    ensures { λ r. ⌜ r .cells ≡ leaves (settled g) longest depth (boxOf (n .b)) ⌝ }
-    ensures { λ r. ⌜ r .evaluated ≡ boxCount (settled g) longest depth (boxOf (n .b)) ⌝ }
-    ensures { λ r. ⌜ ((k : ℕ) → r .solid ≡ volumeOf (inside g) (cells (settled g) longest depth k (boxOf (n .b)))) ⌝ }
-{
-    match n.look(depth) {
-        Step::Cell(s) => {
-            let b = n.b;
-            Counted {
-                cells: 1,
-                evaluated: 1,
-                solid: solid(s, b),
-            }
+impl Counted {
+    pub fn cell(s: State, b: ShiftedBox) -> Counted
+        requires { ⌜ Good (boxOf b) ⌝ }
+        ensures { λ r. ⌜ r ≡ oneCell s (boxOf b) ⌝ }
+    {
+        Counted {
+            cells: 1,
+            evaluated: 1,
+            solid: solid(s, b),
         }
-        Step::Halves(a) => {
-            let b = n.b;
-            let l = count(g, n.beside(g, a, b.lower(a)), depth - 1);
-            let h = count(g, n.beside(g, a, b.upper(a)), depth - 1);
-            Counted {
-                cells: l.cells + h.cells,
-                evaluated: 1 + l.evaluated + h.evaluated,
-                solid: l.solid + h.solid,
-            }
+    }
+
+    // With the upper half's, and the box itself.
+    pub fn joined(self, h: Counted) -> Counted
+        requires { ⌜ Adds self h ⌝ }
+        ensures { λ r. ⌜ r ≡ joinedOf self h ⌝ }
+    {
+        Counted {
+            cells: self.cells + h.cells,
+            evaluated: 1 + self.evaluated + h.evaluated,
+            solid: self.solid + h.solid,
+        }
+    }
+
+    // Slot 0 of the table of a box of which this is counted.
+    pub fn head(self, b: ShiftedBox) -> Head
+        requires { ⌜ Good (boxOf b) ⌝ }
+        requires { ⌜ self .solid ≤ volume (boxOf b) ⌝ }
+        ensures { λ r. ⌜ r ≡ headWith self (boxOf b) ⌝ }
+    {
+        Head {
+            first: 1,
+            cells: self.cells,
+            evaluated: self.evaluated,
+            solid: self.solid,
+            open: b.volume() - self.solid,
         }
     }
 }

@@ -6,8 +6,9 @@ ghost use Rattle.gyroid.specs.Residual.{stateNumber};
 ghost use Rattle.tree.specs.Box.{Good, boxOf, oneCube, volume};
 ghost use Rattle.tree.specs.Beside.{Beside};
 ghost use Rattle.walk.specs.Walk.{isSettled, isInside};
-ghost use Rattle.walk.specs.Carried.{Stands, stepOf};
+ghost use Rattle.walk.specs.Carried.{Stands, partsOf, stepOf};
 use crate::Node;
+use crate::Parts;
 use crate::Step;
 use crate::axes::part_of;
 use gyroid::Gyroid;
@@ -46,16 +47,13 @@ impl Node {
         Step::Halves(b.longest())
     }
 
-    // A box b that differs from this one along an axis.
-    pub fn beside(self, g: Gyroid, a: Axis, b: ShiftedBox) -> Node
-        requires { ⌜ Stands g self ⌝ }
+    // A box with its own parts: the one place where a box is evaluated.
+    fn evaluated(g: Gyroid, b: ShiftedBox, p: Parts) -> Node
         requires { ⌜ Good (boxOf b) ⌝ }
-        requires { ⌜ Beside a (boxOf (self .b)) (boxOf b) ⌝ }
+        requires { ⌜ p ≡ partsOf g (boxOf b) ⌝ }
         ensures { λ r. ⌜ r .b ≡ b ⌝ }
         ensures { λ r. ⌜ Stands g r ⌝ }
     {
-        let whole = self.p;
-        let p = whole.renewed(a, part_of(g, b, a));
         let surface = g.surface;
         let levels = g.intervals;
         let level = g.interval_level;
@@ -66,6 +64,27 @@ impl Node {
             p,
             s: joined_state(surface, levels, level, k, k2, p.x, p.y, p.z),
         }
+    }
+
+    // The root of a tree.
+    pub fn root(g: Gyroid, b: ShiftedBox) -> Node
+        requires { ⌜ Good (boxOf b) ⌝ }
+        ensures { λ r. ⌜ r .b ≡ b ⌝ }
+        ensures { λ r. ⌜ Stands g r ⌝ }
+    {
+        Node::evaluated(g, b, Parts::of(g, b))
+    }
+
+    // A box b that differs from this one along an axis.
+    pub fn beside(self, g: Gyroid, a: Axis, b: ShiftedBox) -> Node
+        requires { ⌜ Stands g self ⌝ }
+        requires { ⌜ Good (boxOf b) ⌝ }
+        requires { ⌜ Beside a (boxOf (self .b)) (boxOf b) ⌝ }
+        ensures { λ r. ⌜ r .b ≡ b ⌝ }
+        ensures { λ r. ⌜ Stands g r ⌝ }
+    {
+        let whole = self.p;
+        Node::evaluated(g, b, whole.renewed(a, part_of(g, b, a)))
     }
 }
 

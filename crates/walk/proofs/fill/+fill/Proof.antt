@@ -1,39 +1,45 @@
--- A cell is written to its slot; of a box that is halved, the cells of the lower half are written and then those of the upper. The depth that
--- is left falls. `cell` and `halved` say what the step at the box tells of its tree, `low-is` and `high-is` which boxes its halves are: the
--- needs follow from these and from what the functions called promise. Assumes nothing.
+-- A cell is written to its slot if there is one; of a box that is halved, the cells of the lower half are written and then those of the upper.
+-- The depth that is left falls. `cell` and `halved` say what the step at the box tells of its tree, `low-is` and `high-is` which boxes its halves
+-- are, `low-done` and `high-done` what the writer's answers tell of them: the needs follow from these. Assumes nothing.
 use mathlib.Core.Path.{_≡_, refl, sym, ap, _∙_}
 use mathlib.Core.List.{List}
-use Prim.Native.Nat.{ℕ, suc, _-_, _<_}
+use Prim.Native.Nat.{ℕ, suc, _+_, _-_, _/_, _≤_, _<_}
 use native.Mathlib.Omega.{arith}
 use borrow.Author.Needs.{needs}
+use lib.ListN.{length}
 use Rattle.gyroid.specs.declared.Gyroid.{Gyroid}
 use Rattle.tree.specs.Box.{Box, boxOf, longest, lower, upper}
 use Rattle.tree.specs.Tree.{leaves, cells}
+use Rattle.tree.proofs.CountLaws.{leaves-least}
 use Rattle.table.specs.Table.{Mark}
 use Rattle.table.proofs.BoundLaws.{within-ticks}
-use Rattle.table.proofs.Slots.{fill-leaf, fill-halves}
+use Rattle.table.proofs.PlacedLaws.{placed-cell, placed-halves}
 use Rattle.grade.specs.InUse.{inUse}
 use Rattle.walk.specs.FunctionsInUse.{settled, marksOf}
 use Rattle.walk.proofs.StepLaws.{AtCell, AtHalves, at-cell, at-halves}
 use Rattle.walk.proofs.MarkLaws.{marks-cell, marks-halves, marks-leaves}
 use Rattle.walk.proofs.PartLaws.{lower-ready, upper-ready}
+use Rattle.walk.proofs.CountedLaws.{counted-cells, counted-cell, counted-halves, counted-adds}
+use Rattle.walk.proofs.FilledLaws.{HasRoom, is-done, is-full, done-tells, full-tells}
 use borrow.Fn.Kinds.{In}
 use borrow.Fn.PlainCycle.{Measures, is, falls, and}
 use Rattle.walk.proofs.fill.fill.Reads as fill
 use Rattle.walk.proofs.fill.fill.Kinds as fill-kinds
 use Rattle.walk.proofs.fill.+fill.Lts-fill as fill-lts
-use Rattle.table.proofs.put.next_slot.Reads as next-slot-reads
 use Rattle.table.proofs.put.put_cell.Reads as put-cell-reads
 use Rattle.tree.proofs.ShiftedBox.lower.Reads as lower-reads
 use Rattle.tree.proofs.ShiftedBox.upper.Reads as upper-reads
+use Rattle.walk.proofs.Counted.cell.Reads as cell-reads
+use Rattle.walk.proofs.Counted.joined.Reads as joined-reads
 use Rattle.walk.proofs.Node.beside.Reads as beside-reads
 use Rattle.walk.proofs.Node.look.Reads as look-reads
+use Rattle.walk.proofs.fill.named.Reads as named-reads
 use Rattle.walk.proofs.visit.number.Reads as number-reads
 use Rattle.walk.proofs.fill.+fill.{statement}
 use Rattle.walk.proofs.fill.+fill.Tie.{close}
 
 abbrev μ-fill : Measures 1 fill-kinds.ps ℕ
-μ-fill κs a = a .1 .1 .0
+μ-fill κs a = a .1 .1 .1 .0
 
 abbrev fill-at : ℕ → In 1 fill-kinds.ps
 fill-at t = and 1 fill-kinds.ps (is 1 fill-kinds.ps μ-fill t) fill.Pre
@@ -44,22 +50,26 @@ fill-below t = and 1 fill-kinds.ps (falls 1 fill-kinds.ps _<_ μ-fill t) fill.Pr
 -- what the functions that are called ask and promise
 abbrev claims : ℕ → fill-lts.Claims
 claims t = (
-  look-reads.Asked,
-  look-reads.Learnt,
-  next-slot-reads.Asked,
-  next-slot-reads.Learnt,
+  named-reads.Asked,
+  named-reads.Learnt,
   number-reads.Asked,
   number-reads.Learnt,
   put-cell-reads.Asked,
   put-cell-reads.Learnt,
+  cell-reads.Asked,
+  cell-reads.Learnt,
   lower-reads.Asked,
   lower-reads.Learnt,
   beside-reads.Asked,
   beside-reads.Learnt,
+  look-reads.Asked,
+  look-reads.Learnt,
   fill-below t,
   fill.Post,
   upper-reads.Asked,
   upper-reads.Learnt,
+  joined-reads.Asked,
+  joined-reads.Learnt,
 )
 
 -- ---- places in the code, and the way back from one to another
@@ -73,21 +83,31 @@ IsCell t = fill-lts.After-known-told (claims t) (fill-at t) fill.Post
 abbrev IsHalved : ℕ → Type 0
 IsHalved t = fill-lts.After-known-told2 (claims t) (fill-at t) fill.Post
 
--- the lower half is at hand; it is written; the upper half is at hand
+-- the lower half is at hand; the writer has answered; its cells are written
 abbrev Lower : ℕ → Type 0
 Lower t = fill-lts.After-beside (claims t) (fill-at t) fill.Post
 
-abbrev Written : ℕ → Type 0
-Written t = fill-lts.After-fill (claims t) (fill-at t) fill.Post
+abbrev LowFilled : ℕ → Type 0
+LowFilled t = fill-lts.After-fill (claims t) (fill-at t) fill.Post
 
+abbrev LowDone : ℕ → Type 0
+LowDone t = fill-lts.After-known-told3 (claims t) (fill-at t) fill.Post
+
+-- so with the upper half
 abbrev Upper : ℕ → Type 0
 Upper t = fill-lts.After-beside2 (claims t) (fill-at t) fill.Post
 
+abbrev HighFilled : ℕ → Type 0
+HighFilled t = fill-lts.After-fill2 (claims t) (fill-at t) fill.Post
+
+abbrev HighDone : ℕ → Type 0
+HighDone t = fill-lts.After-known-told4 (claims t) (fill-at t) fill.Post
+
 abbrev of-cell : (t : ℕ) → IsCell t → Start t
-of-cell t c = c .before .before .before .before .before
+of-cell t c = c .before .before .before .before
 
 abbrev of-halved : (t : ℕ) → IsHalved t → Start t
-of-halved t c = c .before .before .before .before .before
+of-halved t c = c .before .before .before .before
 
 abbrev to-halved : (t : ℕ) → Lower t → IsHalved t
 to-halved t c = c .before .before .before
@@ -95,58 +115,94 @@ to-halved t c = c .before .before .before
 abbrev of-lower : (t : ℕ) → Lower t → Start t
 of-lower t c = of-halved t (to-halved t c)
 
-abbrev to-written : (t : ℕ) → Upper t → Written t
-to-written t c = c .before .before .before .before
+abbrev to-lower : (t : ℕ) → LowFilled t → Lower t
+to-lower t c = c .before .before .before
 
-abbrev to-lower : (t : ℕ) → Upper t → Lower t
-to-lower t c = to-written t c .before .before
+abbrev to-low-filled : (t : ℕ) → LowDone t → LowFilled t
+to-low-filled t c = c .before .before .before .before .before
+
+abbrev to-low-done : (t : ℕ) → Upper t → LowDone t
+to-low-done t c = c .before .before .before
+
+abbrev to-upper : (t : ℕ) → HighFilled t → Upper t
+to-upper t c = c .before .before .before
+
+abbrev to-high-filled : (t : ℕ) → HighDone t → HighFilled t
+to-high-filled t c = c .before .before .before .before .before
+
+-- from the cells of the lower half, and from the upper half, to the lower
+abbrev done-lower : (t : ℕ) → LowDone t → Lower t
+done-lower t c = to-lower t (to-low-filled t c)
+
+abbrev upper-lower : (t : ℕ) → Upper t → Lower t
+upper-lower t c = done-lower t (to-low-done t c)
 
 -- the box of a call
 abbrev whole : (t : ℕ) → Start t → Box
 whole t s = boxOf (s .args .n .b)
 
 -- ---- what the step tells
-cell : (t : ℕ) (c : IsCell t) → let s = of-cell t c in AtCell (s .args .g) (s .args .depth) (whole t s) (c .before .s .given .0 .0)
-cell t c = at-cell _ _ _ _ (of-cell t c .pre .1 .0 .state) (sym (c .before .before .before .look .ensures) ∙ c .before .s .given .1)
+cell : (t : ℕ) (c : IsCell t) → let s = of-cell t c in AtCell (s .args .g) (s .args .depth) (whole t s) (c .before .step .given .0 .0)
+cell t c =
+    let p = of-cell t c .pre .1 in
+    at-cell _ _ _ _ (p .0 .state) (sym (p .1 .0) ∙ c .before .step .given .1)
 
-halved : (t : ℕ) (c : IsHalved t) → let s = of-halved t c in AtHalves (s .args .g) (s .args .depth) (whole t s) (c .before .a .given .0 .0)
+halved : (t : ℕ) (c : IsHalved t) → let s = of-halved t c in AtHalves (s .args .g) (s .args .depth) (whole t s) (c .before .step2 .given .0 .0)
 halved t c =
-    let p = of-halved t c .pre .1 .0 in
-    at-halves _ _ _ _ (p .good) (p .state) (sym (c .before .before .before .look .ensures) ∙ c .before .a .given .1)
+    let p = of-halved t c .pre .1 in
+    at-halves _ _ _ _ (p .0 .good) (p .0 .state) (sym (p .1 .0) ∙ c .before .step2 .given .1)
 
 -- ---- the boxes of the halves
-low-is : (t : ℕ) (c : Lower t) → boxOf (c .beside .result .b) ≡ lower (to-halved t c .before .a .given .0 .0) (whole t (of-lower t c))
+low-is : (t : ℕ) (c : Lower t) → boxOf (c .beside .result .b) ≡ lower (to-halved t c .before .step2 .given .0 .0) (whole t (of-lower t c))
 low-is t c = ap boxOf (c .beside .ensures .0) ∙ c .before .lower .ensures
 
 high-is : (t : ℕ) (c : Upper t)
-    → boxOf (c .beside2 .result .b) ≡ upper (to-halved t (to-lower t c) .before .a .given .0 .0) (whole t (of-lower t (to-lower t c)))
+    → let l = upper-lower t c in boxOf (c .beside2 .result .b) ≡ upper (to-halved t l .before .step2 .given .0 .0) (whole t (of-lower t l))
 high-is t c = ap boxOf (c .beside2 .ensures .0) ∙ c .before .upper .ensures
 
--- ---- the step, and a cell
-fill-look-requires : (t : ℕ) → fill-lts.Need-look-requires (claims t) (fill-at t) fill.Post
-fill-look-requires t c κs = search needs
+-- ---- what the answers tell: the counts, and that there was room
+low-done : (t : ℕ) (c : LowDone t)
+    → let l = done-lower t c in let a = of-lower t l .args in
+    HasRoom (a .g) (a .depth - 1) (boxOf (l .beside .result .b)) (a .fresh) (length (a .t .now) / 32) (c .before .low .given .0 .0)
+low-done t c = done-tells _ _ _ _ _ (to-low-filled t c .fill .ensures .0) (c .before .low .given .1)
 
-fill-enum-known-s : (t : ℕ) → fill-lts.Need-enum-known-s (claims t) (fill-at t) fill.Post
-fill-enum-known-s t c = search needs
+-- the lower half's cells, and that there is one
+low-cells : (t : ℕ) (c : LowDone t)
+    → let l = done-lower t c in let a = of-lower t l .args in
+    c .before .low .given .0 .0 .cells ≡ leaves (settled (a .g)) longest (a .depth - 1) (boxOf (l .beside .result .b))
+low-cells t c = counted-cells _ _ _ (low-done t c .counted)
 
-fill-next-slot-requires : (t : ℕ) → fill-lts.Need-next-slot-requires (claims t) (fill-at t) fill.Post
-fill-next-slot-requires t c κs = search needs
+low-least : (t : ℕ) (c : Lower t) → let a = of-lower t c .args in 1 ≤ leaves (settled (a .g)) longest (a .depth - 1) (boxOf (c .beside .result .b))
+low-least t c = leaves-least _ _ _ _
 
-fill-number-requires : (t : ℕ) → fill-lts.Need-number-requires (claims t) (fill-at t) fill.Post
-fill-number-requires t c κs = search needs
+high-done : (t : ℕ) (c : HighDone t)
+    → let u = to-upper t (to-high-filled t c) in let f = to-low-filled t (to-low-done t u) in let a = of-lower t (to-lower t f) .args in
+    HasRoom (a .g) (a .depth - 1) (boxOf (u .beside2 .result .b)) (a .fresh + to-low-done t u .before .low .given .0 .0 .cells - 1 + 1)
+    (length (f .fill .last .1 .1 .1 .1 .0) / 32)
+    (c .before .high .given .0 .0)
+high-done t c = done-tells _ _ _ _ _ (to-high-filled t c .fill2 .ensures .0) (c .before .high .given .1)
+
+-- ---- a cell: it has no slot, or it is put there
+fill-enum-known-step : (t : ℕ) → fill-lts.Need-enum-known-step (claims t) (fill-at t) fill.Post
+fill-enum-known-step t c = search needs
+
+fill-returns : (t : ℕ) → fill-lts.Need-returns (claims t) (fill-at t) fill.Post
+fill-returns t c =
+    let one = cell t (c .before) .tree .leaves1 in
+    (is-full _ _ _ _ _ (omega (arith, one, c .if1 .taken)), λ h. absurd (omega (arith, one, c .if1 .taken)))
 
 fill-put-cell-requires : (t : ℕ) → fill-lts.Need-put-cell-requires (claims t) (fill-at t) fill.Post
 fill-put-cell-requires t c κs =
-    let k = c .before .before .before .before in
-    let s = of-cell t k in
-    (within-ticks (s .args .n .b) (s .pre .1 .0 .good), omega (arith, s .pre .1 .1 .1, cell t k .tree .leaves1))
+    let e = c .before .before .before .before in
+    let s = of-cell t (e .before) in
+    (within-ticks (s .args .n .b) (s .pre .1 .0 .good), omega (arith, e .if1 .left, s .pre .1 .1 .1 .1 .0))
 
-fill-add-result : (t : ℕ) → fill-lts.Need-add-result (claims t) (fill-at t) fill.Post
-fill-add-result t c = search needs
+fill-cell-requires : (t : ℕ) → fill-lts.Need-cell-requires (claims t) (fill-at t) fill.Post
+fill-cell-requires t c κs = of-cell t (c .before .before .before .before .before .before .before .before) .pre .1 .0 .good
 
 -- ---- the lower half
-fill-enum-known-a : (t : ℕ) → fill-lts.Need-enum-known-a (claims t) (fill-at t) fill.Post
-fill-enum-known-a t c = search needs
+fill-enum-known-step-2 : (t : ℕ) → fill-lts.Need-enum-known-step-2 (claims t) (fill-at t) fill.Post
+fill-enum-known-step-2 t c = search needs
 
 fill-lower-requires : (t : ℕ) → fill-lts.Need-lower-requires (claims t) (fill-at t) fill.Post
 fill-lower-requires t c κs = of-halved t (c .before) .pre .1 .0 .good
@@ -158,109 +214,214 @@ fill-beside-requires t c κs =
     let r = lower-ready _ (whole t s) _ (s .pre .1 .0 .good) (halved t k .two) (c .lower .ensures) in
     (s .pre .1 .0, (r .0, r .1))
 
+fill-sub-look : (t : ℕ) → fill-lts.Need-sub-look (claims t) (fill-at t) fill.Post
+fill-sub-look t c = halved t (to-halved t c) .left
+
+fill-look-requires : (t : ℕ) → fill-lts.Need-look-requires (claims t) (fill-at t) fill.Post
+fill-look-requires t c κs = c .beside .ensures .1 .good
+
 fill-sub-fill : (t : ℕ) → fill-lts.Need-sub-fill (claims t) (fill-at t) fill.Post
-fill-sub-fill t c = halved t (to-halved t c) .left
+fill-sub-fill t c = halved t (to-halved t (c .before)) .left
 
 fill-fill-requires : (t : ℕ) → fill-lts.Need-fill-requires (claims t) (fill-at t) fill.Post
 fill-fill-requires t c κs =
-    let l = c .before in
+    let k = c .before in
+    let l = k .before in
     let h = halved t (to-halved t l) in
-    let p = of-lower t l .pre in
-    let sum = h .leaves2 (low-is t l) refl in
-    (omega (arith, p .0, h .left), (l .beside .ensures .1, (omega (arith, p .1 .1 .0), omega (arith, p .1 .1 .1, sum))))
+    let p = of-lower t l .pre .1 .1 .1 in
+    let sum = h .leaves2 (low-is t l) refl in (
+      omega (arith, of-lower t l .pre .0, h .left),
+      (l .beside .ensures .1, (k .look .ensures, (omega (arith, p .0), (p .1 .0, omega (arith, p .1 .1, sum))))),
+    )
+
+-- its cells have no room
+fill-enum-known-low : (t : ℕ) → fill-lts.Need-enum-known-low (claims t) (fill-at t) fill.Post
+fill-enum-known-low t c = search needs
+
+fill-enum-told : (t : ℕ) → fill-lts.Need-enum-told (claims t) (fill-at t) fill.Post
+fill-enum-told t c = search needs
+
+fill-same-length : (t : ℕ) → fill-lts.Need-same-length (claims t) (fill-at t) fill.Post
+fill-same-length t c = c .before .before .before .before .fill .kept .1 .1 .1 .1 .0
+
+fill-returns-2 : (t : ℕ) → fill-lts.Need-returns-2 (claims t) (fill-at t) fill.Post
+fill-returns-2 t c =
+    let f = c .before .before .before .before in
+    let l = to-lower t f in
+    let full = full-tells _ _ _ _ _ (f .fill .ensures .0) (c .enum-told .given .1) in
+    let sum = halved t (to-halved t l) .leaves2 (low-is t l) refl in
+    (is-full _ _ _ _ _ (omega (arith, full, sum)), λ q. absurd (omega (arith, full, sum)))
 
 -- ---- the upper half, behind the cells of the lower
+fill-add-mid : (t : ℕ) → fill-lts.Need-add-mid (claims t) (fill-at t) fill.Post
+fill-add-mid t c =
+    let l = done-lower t (c .before) in
+    omega (arith, low-cells t (c .before), of-lower t l .pre .1 .1 .1 .1 .1, halved t (to-halved t l) .leaves2 (low-is t l) refl)
+
+fill-sub-mid : (t : ℕ) → fill-lts.Need-sub-mid (claims t) (fill-at t) fill.Post
+fill-sub-mid t c = omega (arith, low-cells t (c .before), low-least t (done-lower t (c .before)))
+
 fill-upper-requires : (t : ℕ) → fill-lts.Need-upper-requires (claims t) (fill-at t) fill.Post
-fill-upper-requires t c κs = of-lower t (c .before .before .before .before) .pre .1 .0 .good
+fill-upper-requires t c κs = of-lower t (done-lower t (c .before)) .pre .1 .0 .good
 
 fill-beside-requires-2 : (t : ℕ) → fill-lts.Need-beside-requires-2 (claims t) (fill-at t) fill.Post
 fill-beside-requires-2 t c κs =
-    let l = c .before .before .before .before .before in
+    let l = done-lower t (c .before .before) in
     let s = of-lower t l in
     let r = upper-ready _ (whole t s) _ (s .pre .1 .0 .good) (halved t (to-halved t l) .two) (c .upper .ensures) in
     (s .pre .1 .0, (r .0, r .1))
 
+fill-sub-look-2 : (t : ℕ) → fill-lts.Need-sub-look-2 (claims t) (fill-at t) fill.Post
+fill-sub-look-2 t c = halved t (to-halved t (upper-lower t c)) .left
+
+fill-look-requires-2 : (t : ℕ) → fill-lts.Need-look-requires-2 (claims t) (fill-at t) fill.Post
+fill-look-requires-2 t c κs = c .beside2 .ensures .1 .good
+
 fill-sub-fill-2 : (t : ℕ) → fill-lts.Need-sub-fill-2 (claims t) (fill-at t) fill.Post
-fill-sub-fill-2 t c = halved t (to-halved t (to-lower t c)) .left
+fill-sub-fill-2 t c = halved t (to-halved t (upper-lower t (c .before))) .left
+
+fill-add-fill : (t : ℕ) → fill-lts.Need-add-fill (claims t) (fill-at t) fill.Post
+fill-add-fill t c =
+    let d = to-low-done t (c .before .before) in
+    let l = done-lower t d in
+    omega (arith, low-cells t d, of-lower t l .pre .1 .1 .1 .1 .1, halved t (to-halved t l) .leaves2 (low-is t l) refl)
 
 fill-fill-requires-2 : (t : ℕ) → fill-lts.Need-fill-requires-2 (claims t) (fill-at t) fill.Post
 fill-fill-requires-2 t c κs =
-    let u = c .before in
-    let f = to-written t u .fill in
-    let l = to-lower t u in
+    let k = c .before in
+    let u = k .before in
+    let d = to-low-done t u in
+    let l = done-lower t d in
     let h = halved t (to-halved t l) in
-    let p = of-lower t l .pre in
-    let sum = h .leaves2 (low-is t l) (high-is t u) in (
-      omega (arith, p .0, h .left),
-      (u .beside2 .ensures .1, (omega (arith, p .1 .1 .0), omega (arith, p .1 .1 .1, sum, f .ensures .0, f .kept .1 .1 .1 .0))),
+    let p = of-lower t l .pre .1 .1 .1 in
+    let sum = h .leaves2 (low-is t l) (high-is t u) in
+    let n = low-cells t d in (
+      omega (arith, of-lower t l .pre .0, h .left),
+      (u .beside2 .ensures .1, (k .look2 .ensures, (omega (arith, p .0), (omega arith, omega (arith, p .1 .1, sum, n, low-least t l))))),
     )
 
--- ---- the cell's slot, the next slot and its bytes
-fill-same-length : (t : ℕ) → fill-lts.Need-same-length (claims t) (fill-at t) fill.Post
-fill-same-length t c = search needs
+-- its cells have no room
+fill-enum-known-high : (t : ℕ) → fill-lts.Need-enum-known-high (claims t) (fill-at t) fill.Post
+fill-enum-known-high t c = search needs
+
+fill-enum-told-2 : (t : ℕ) → fill-lts.Need-enum-told-2 (claims t) (fill-at t) fill.Post
+fill-enum-told-2 t c = search needs
+
+fill-same-length-2 : (t : ℕ) → fill-lts.Need-same-length-2 (claims t) (fill-at t) fill.Post
+fill-same-length-2 t c =
+    let f = c .before .before .before .before in
+    f .fill2 .kept .1 .1 .1 .1 .0 ∙ to-low-filled t (to-low-done t (to-upper t f)) .fill .kept .1 .1 .1 .1 .0
+
+fill-returns-3 : (t : ℕ) → fill-lts.Need-returns-3 (claims t) (fill-at t) fill.Post
+fill-returns-3 t c =
+    let f = c .before .before .before .before in
+    let u = to-upper t f in
+    let d = to-low-done t u in
+    let l = done-lower t d in
+    let full = full-tells _ _ _ _ _ (f .fill2 .ensures .0) (c .enum-told2 .given .1) in
+    let sum = halved t (to-halved t l) .leaves2 (low-is t l) (high-is t u) in
+    let same = to-low-filled t d .fill .kept .1 .1 .1 .1 .0 in
+    let n = low-cells t d in
+    let least = low-least t l in
+    (is-full _ _ _ _ _ (omega (arith, full, sum, same, n, least)), λ q. absurd (omega (arith, full, sum, same, n, least)))
+
+-- ---- both counts
+fill-joined-requires : (t : ℕ) → fill-lts.Need-joined-requires (claims t) (fill-at t) fill.Post
+fill-joined-requires t c κs =
+    let u = to-upper t (to-high-filled t c) in
+    let d = to-low-done t u in
+    let l = done-lower t d in
+    let p = of-lower t l .pre in
+    counted-adds _ _ _ _ (halved t (to-halved t l)) (low-is t l) (high-is t u) (p .1 .0 .good) (p .1 .1 .1 .0) (low-done t d .counted) (high-done t c .counted)
+
+-- ---- the cell's count and its bytes
+fill-same-length-3 : (t : ℕ) → fill-lts.Need-same-length-3 (claims t) (fill-at t) fill.Post
+fill-same-length-3 t c = c .before .before .before .put-cell .kept .0
 
 -- the cells of a box as the table has them
 abbrev marks : Gyroid → ℕ → ℕ → Box → List Mark
 marks g d k b = marksOf g (cells (settled g) longest d k b)
 
-fill-returns : (t : ℕ) → fill-lts.Need-returns (claims t) (fill-at t) fill.Post
-fill-returns t c =
-    let p = c .before .before in
-    let next = p .before .before .next-slot in
-    let k = p .before .before .before .before .before in
-    let a = of-cell t k .args in
-    let b = whole t (of-cell t k) in
-    let at = cell t k in (
-      omega (arith, at .tree .leaves1),
-      λ i. fill-leaf (a .t .now) (p .put-cell .last .0) (a .total) (a .slot) (next .result) _ (marks (a .g) (a .depth) i b)
-          (p .put-cell .ensures) (next .ensures) (marks-cell (a .g) (a .depth) i b _ at (p .before .number .ensures)),
+fill-returns-4 : (t : ℕ) → fill-lts.Need-returns-4 (claims t) (fill-at t) fill.Post
+fill-returns-4 t c =
+    let p = c .before .before .before in
+    let e = p .before .before .before .before .before in
+    let s = of-cell t (e .before) in
+    let a = s .args in
+    let at = cell t (e .before) in
+    let one = at .tree .leaves1 in (
+      is-done _ _ _ _ _ (omega (arith, one, e .if1 .left)) (c .cell .ensures ∙ sym (counted-cell _ _ _ _ at)),
+      λ q i. placed-cell (a .t .now) (a .slot) (a .fresh) (a .last) (a .after) (p .put-cell .ensures) (p .before .before .named .ensures) one
+          (marks-cell _ _ i _ _ at (p .before .number .ensures)),
     )
 
--- ---- the slot behind both halves, and their bytes
-fill-same-length-2 : (t : ℕ) → fill-lts.Need-same-length-2 (claims t) (fill-at t) fill.Post
-fill-same-length-2 t c =
-    let second = c .before .before in
-    second .fill2 .kept .1 .1 .1 .0 ∙ to-written t (second .before .before) .fill .kept .1 .1 .1 .0
+-- ---- the counts of both halves and their bytes
+fill-same-length-4 : (t : ℕ) → fill-lts.Need-same-length-4 (claims t) (fill-at t) fill.Post
+fill-same-length-4 t c =
+    let f = to-high-filled t (c .before) in
+    f .fill2 .kept .1 .1 .1 .1 .0 ∙ to-low-filled t (to-low-done t (to-upper t f)) .fill .kept .1 .1 .1 .1 .0
 
-fill-returns-2 : (t : ℕ) → fill-lts.Need-returns-2 (claims t) (fill-at t) fill.Post
-fill-returns-2 t c =
-    let second = c .before .before .fill2 in
-    let u = c .before .before .before .before in
-    let first = to-written t u .fill in
-    let l = to-lower t u in
+fill-returns-5 : (t : ℕ) → fill-lts.Need-returns-5 (claims t) (fill-at t) fill.Post
+fill-returns-5 t c =
+    let second = to-high-filled t (c .before) in
+    let u = to-upper t second in
+    let d = to-low-done t u in
+    let first = to-low-filled t d in
+    let l = done-lower t d in
     let a = of-lower t l .args in
-    let b = whole t (of-lower t l) in
     let h = halved t (to-halved t l) in
     let low = boxOf (l .beside .result .b) in
     let high = boxOf (u .beside2 .result .b) in
-    let d = a .depth - 1 in (
-      omega (arith, h .leaves2 (low-is t l) (high-is t u), first .ensures .0, second .ensures .0),
-      λ i. fill-halves (a .t .now) (first .last .1 .1 .1 .0) (second .last .1 .1 .1 .0) (a .total) (a .slot) (first .result)
-          (leaves (settled (a .g)) longest d low) (marks (a .g) d (suc i) low) (marks (a .g) d (suc i) high) (marks (a .g) (a .depth) i b)
-          (first .ensures .1 (suc i)) (second .ensures .1 (suc i)) (first .ensures .0)
-          (marks-leaves inUse (a .g) d (suc i) low) (marks-halves (a .g) (a .depth) i b low high _ h (low-is t l) (high-is t u)),
+    let ld = low-done t d in
+    let hd = high-done t (c .before) in
+    let sum = h .leaves2 (low-is t l) (high-is t u) in
+    let n = low-cells t d in
+    let k = a .depth - 1 in (
+      is-done _ _ _ _ _ (omega (arith, hd .fits, sum, first .fill .kept .1 .1 .1 .1 .0, n, low-least t l))
+          (c .joined .ensures ∙ counted-halves _ _ _ _ h (low-is t l) (high-is t u) (ld .counted) (hd .counted)),
+      λ q i. placed-halves (a .t .now) (a .slot) (a .fresh) (a .last) (a .after) (marks (a .g) k (suc i) low) (marks (a .g) k (suc i) high)
+          (marks-leaves inUse (a .g) k (suc i) low) (marks-leaves inUse (a .g) k (suc i) high) (low-least t l)
+          (leaves-least (settled (a .g)) longest k high) sum (ap (λ (m : ℕ). a .fresh + m - 1) n)
+          (marks-halves _ _ i _ low high _ h (low-is t l) (high-is t u)) (first .fill .ensures .1 (ld .fits) (suc i))
+          (second .fill2 .ensures .1 (hd .fits) (suc i)),
     )
 
 pub +fill-spec : {M : Type 1} → statement M
 +fill-spec = close μ-fill λ t. fill-lts.spec (claims t)
     (fill-at t)
     fill.Post
-    (fill-look-requires t)
-    (fill-enum-known-s t)
-    (fill-next-slot-requires t)
-    (fill-number-requires t)
+    (fill-enum-known-step t)
+    (fill-returns t)
+    (λ _ _. tt)
+    (λ _ _. tt)
     (fill-put-cell-requires t)
-    (fill-add-result t)
-    (fill-enum-known-a t)
+    (fill-cell-requires t)
+    (fill-enum-known-step-2 t)
     (fill-lower-requires t)
     (fill-beside-requires t)
+    (fill-sub-look t)
+    (fill-look-requires t)
     (fill-sub-fill t)
     (fill-fill-requires t)
+    (fill-enum-known-low t)
+    (fill-enum-told t)
+    (fill-same-length t)
+    (fill-returns-2 t)
+    (fill-add-mid t)
+    (fill-sub-mid t)
     (fill-upper-requires t)
     (fill-beside-requires-2 t)
+    (fill-sub-look-2 t)
+    (fill-look-requires-2 t)
     (fill-sub-fill-2 t)
+    (fill-add-fill t)
     (fill-fill-requires-2 t)
-    (fill-same-length t)
-    (fill-returns t)
+    (fill-enum-known-high t)
+    (fill-enum-told-2 t)
     (fill-same-length-2 t)
-    (fill-returns-2 t)
+    (fill-returns-3 t)
+    (fill-joined-requires t)
+    (fill-same-length-3 t)
+    (fill-returns-4 t)
+    (fill-same-length-4 t)
+    (fill-returns-5 t)

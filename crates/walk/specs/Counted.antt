@@ -1,0 +1,40 @@
+-- What is counted of a tree, and what the writer answers. The walk's definitions do not see it. Definitions only; assumes nothing.
+use mathlib.Core.Bool.{cond}
+use Prim.Native.Nat.{ℕ, _+_, _-_, _≤_}
+use lib.Dec.{leb}
+use Rattle.gyroid.specs.declared.Gyroid.{Gyroid}
+use Rattle.gyroid.specs.declared.State.{State}
+use Rattle.tree.specs.Box.{Box, longest, volume}
+use Rattle.tree.specs.Tree.{leaves}
+use Rattle.table.specs.declared.Head.{Head}
+use Rattle.walk.specs.declared.Counted.{Counted}
+use Rattle.walk.specs.declared.Filled.{Filled}
+use Rattle.walk.specs.declared.Filled.the-variants.{Done, Full}
+use Rattle.walk.specs.Walk.{isInside}
+use Rattle.walk.specs.FunctionsInUse.{settled, evaluatedOf, solidOf}
+
+-- of the tree of a box to the depth d
+unfoldable pub countedOf : Gyroid → ℕ → Box → Counted
+countedOf g d b = record { cells = leaves (settled g) longest d b; evaluated = evaluatedOf g d b; solid = solidOf g d b }
+
+-- of one cell
+abbrev pub oneCell : State → Box → Counted
+oneCell s b = record { cells = 1; evaluated = 1; solid = cond (isInside s) (volume b) 0 }
+
+-- of two halves and their box
+abbrev pub joinedOf : Counted → Counted → Counted
+joinedOf l h = record { cells = l .cells + h .cells; evaluated = 1 + l .evaluated + h .evaluated; solid = l .solid + h .solid }
+
+-- slot 0 of the table of a box of which this is counted
+abbrev pub headWith : Counted → Box → Head
+headWith c b = record { first = 1; cells = c .cells; evaluated = c .evaluated; solid = c .solid; «open» = volume b - c .solid }
+
+-- what keeps the sums in their words: at most 2^24 cells, 2^25 - 1 boxes and 2^63 tick cubes
+pub record Adds (l h : Counted) : Type 0 where
+  pub cells : l .cells + h .cells ≤ 16777216
+  pub evaluated : 1 + l .evaluated + h .evaluated ≤ 33554431
+  pub solid : l .solid + h .solid ≤ 9223372036854775808
+
+-- the writer's answer: the cells but the first go to the slots from `fresh` on, of a table of `slots` slots
+unfoldable pub filledOf : Gyroid → ℕ → Box → ℕ → ℕ → Filled
+filledOf g d b fresh slots = cond (leb (fresh + leaves (settled g) longest d b) (slots + 1)) (Done (countedOf g d b)) Full
