@@ -1,15 +1,48 @@
--- WHAT DEMAND 3 SUPPOSES OF THE SLICES LENT TO `gyroid_walk`: their lengths refuse nothing, and the call returns 0. Assumes nothing.
-use mathlib.Core.Path.{_≡_, refl}
+-- WHAT A WALK OF LENT SLICES RETURNS AND LEAVES, by what their lengths refuse and then by the walk's own two equations. And WHAT DEMAND 3 SUPPOSES OF
+-- THESE SLICES: their lengths refuse nothing, and the call returns 0. Assumes nothing.
+use mathlib.Core.Path.{_≡_, refl, sym, ap, _∙_}
 use mathlib.Core.List.{List}
 use Prim.Native.Nat.{ℕ}
 use native.Mathlib.Omega.{arith}
+use borrow.Author.Tests.{eq-eqb, ne-eqb}
+use lib.Dec.{eqb}
 use lib.IntN.{ℤ}
 use lib.ListN.{length}
+use mir.Syntax.{w64}
+use mir.Val.{toZ, ofZ, SFits}
+use Rattle.exact.proofs.Signed.{back}
 use Rattle.grade.specs.InUse.{inUse}
+use Rattle.gyroid.specs.declared.Description.{Description}
+use Rattle.walk.specs.InUse.{walkNumber, walkTable}
 use Rattle.walk.proofs.SupposedLaws.{supposed-none}
 use Rattle.capi.specs.Lent.{description, wholePoint, lengths}
-use Rattle.capi.specs.Exports.{walkStatus, WalkSupposed}
+use Rattle.capi.specs.Exports.{walkStatus, walkLeft, WalkSupposed}
 use Rattle.capi.proofs.LengthLaws.{right}
+
+module _ (ds ns : List ℤ) (D : ℤ) (t : List ℕ) {n : ℕ} (e : n ≡ lengths (length ds) (length ns) 6 0 0) where
+  test : eqb (lengths (length ds) (length ns) 6 0 0) 0 ≡ eqb n 0
+  test = ap (λ (k : ℕ). eqb k 0) (sym e)
+
+  -- what is promised of a number and of the table's bytes
+  abbrev Walked : ℕ → List ℕ → Type 0
+  Walked r u = (r ≡ walkStatus ds ns D (length t)) × (u ≡ walkLeft ds ns D t)
+
+  -- a length is wrong
+  pub walk-stopped : (n ≡ 0 → ⊥) → Walked n t
+  unfolding walkStatus walkLeft
+  walk-stopped h = let f = test ∙ ne-eqb n 0 h in (rw f e, rw f)
+
+  -- none is
+  pub walk-passed : n ≡ 0 → SFits w64 D → {d : Description} {lo hi : List ℤ} {r : ℕ} {u : List ℕ}
+      → d ≡ description ds → lo ≡ wholePoint ns 0 → hi ≡ wholePoint ns 3
+      → r ≡ walkNumber d lo hi (toZ w64 (ofZ w64 D)) (length t)
+      → u ≡ walkTable d lo hi (toZ w64 (ofZ w64 D)) t
+      → Walked r u
+  unfolding walkStatus walkLeft
+  walk-passed h fits a b c p q =
+      let f = test ∙ eq-eqb n 0 h in
+      let D-is = back {x = D} fits in
+      (rw f (p ∙ (λ i. walkNumber (a i) (b i) (c i) (D-is i) (length t))), rw f (q ∙ (λ i. walkTable (a i) (b i) (c i) (D-is i) t)))
 
 module _ (ds ns : List ℤ) (D : ℤ) (len : ℕ) (s : WalkSupposed ds ns D len) where
   pub lengths-right : lengths (length ds) (length ns) 6 0 0 ≡ 0

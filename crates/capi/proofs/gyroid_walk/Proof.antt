@@ -1,11 +1,10 @@
 -- By what the lengths refuse, then by what the walk promises. Assumes nothing.
-use mathlib.Core.Path.{_≡_, sym, ap, _∙_, transport}
+use mathlib.Core.Path.{_≡_, _∙_, transport}
 use mathlib.Core.List.{List}
 use Prim.Native.Nat.{ℕ}
 use native.Mathlib.Nat.{le-trans}
 use borrow.Author.Needs.{needs}
-use borrow.Author.Tests.{eq-eqb, ne-eqb}
-use lib.Dec.{eqb, lit≤}
+use lib.Dec.{lit≤}
 use lib.IntN.{ℤ, natAbs}
 use lib.ListN.{length}
 use mir.Syntax.{w64}
@@ -17,34 +16,31 @@ use Rattle.walk.specs.InUse.{walkNumber, walkTable, Supposed, Demand}
 use Rattle.capi.specs.Lent.{description, wholePoint, lengths}
 use Rattle.capi.specs.Exports.{walkStatus, walkLeft, WalkSupposed, WalkDemand}
 use Rattle.capi.proofs.LengthLaws.{sized, holds}
-use Rattle.capi.proofs.WalkLaws.{lengths-right}
+use Rattle.capi.proofs.WalkLaws.{lengths-right, walk-stopped, walk-passed}
 use Rattle.capi.proofs.gyroid_walk.Statement.{statement}
 use Rattle.capi.proofs.gyroid_walk.Tie as tie
 
 module _ (ds ns : List ℤ) (D : ℤ) (t : List ℕ) {n : ℕ} (e : n ≡ lengths (length ds) (length ns) 6 0 0) where
-  test : eqb (lengths (length ds) (length ns) 6 0 0) 0 ≡ eqb n 0
-  test = ap (λ (k : ℕ). eqb k 0) (sym e)
-
   -- what is promised of a number and of the table's bytes
   abbrev Promised : ℕ → List ℕ → Type 0
   Promised r u = (r ≡ walkStatus ds ns D (length t)) × ((u ≡ walkLeft ds ns D t) × (WalkSupposed ds ns D (length t) → WalkDemand ds ns D u))
 
   stopped : (n ≡ 0 → ⊥) → Promised n t
-  unfolding walkStatus walkLeft
-  stopped h = let f = test ∙ ne-eqb n 0 h in (rw f e, (rw f, λ s. absurd (h (e ∙ lengths-right ds ns D (length t) s))))
+  stopped h =
+      let w = walk-stopped ds ns D t e h in
+      (w .0, (w .1, λ s. absurd (h (e ∙ lengths-right ds ns D (length t) s))))
 
   passed : n ≡ 0 → SFits w64 D → {d : Description} {lo hi : List ℤ} {r : ℕ} {u : List ℕ} → d ≡ description ds → lo ≡ wholePoint ns 0 → hi ≡ wholePoint ns 3
       → r ≡ walkNumber d lo hi (toZ w64 (ofZ w64 D)) (length t)
       → u ≡ walkTable d lo hi (toZ w64 (ofZ w64 D)) t
       → (Supposed d lo hi (toZ w64 (ofZ w64 D)) (length t) → Demand d (boxFrom lo hi) (natAbs (toZ w64 (ofZ w64 D))) u)
       → Promised r u
-  unfolding walkStatus walkLeft
   passed h fits {u} a b c p q demand =
-      let f = test ∙ eq-eqb n 0 h in
+      let w = walk-passed ds ns D t e h fits a b c p q in
       let D-is = back {x = D} fits in (
-        rw f (p ∙ (λ i. walkNumber (a i) (b i) (c i) (D-is i) (length t))),
+        w .0,
         (
-          rw f (q ∙ (λ i. walkTable (a i) (b i) (c i) (D-is i) t)),
+          w .1,
           λ s. transport (λ i. Supposed (a i) (b i) (c i) (D-is i) (length t) → Demand (a i) (boxFrom (b i) (c i)) (natAbs (D-is i)) u) demand (s .supposed),
         ),
       )

@@ -1,0 +1,56 @@
+// The walk in two passes: it compiles its description, refuses by document 01's numbers, counts the whole tree and only then writes.
+ghost use mathlib.Core.Path.{_≡_};
+ghost use Prim.Native.Nat.{_≤_};
+ghost use lib.ListN.{length};
+ghost use Rattle.tree.specs.Box.{Good, boxOf};
+ghost use Rattle.walk.specs.InUse.{roomRefusal, roomTable, walkNumber, walkTable};
+use gyroid::Description;
+use gyroid::Gyroid;
+use table::put::put_head;
+use table::put::zero;
+use tree::ShiftedBox;
+use walk::Node;
+use walk::calls::entries;
+use walk::count::count;
+use walk::fill::fill;
+
+// Of a compiled leaf and an accepted box and depth.
+fn run_twice(g: Gyroid, b: ShiftedBox, depth: usize, table: &mut [u8]) -> u32
+    requires { ⌜ Good (boxOf b) ⌝ }
+    requires { ⌜ depth ≤ 24 ⌝ }
+    ensures answer { λ r. ⌜ r ≡ roomRefusal g depth (boxOf b) (length (now (table .entry))) ⌝ }
+    ensures left { λ _. ⌜ now (table .exit) ≡ roomTable g depth (boxOf b) (length (now (table .entry))) ⌝ }
+{
+    let root = Node::root(g, b);
+    let step = root.look(depth);
+    let n = count(g, root, step, depth);
+    if table.len() / 32 < n.cells + 1 {
+        zero(table, 0);
+        return 13;
+    }
+    fill(g, root, step, depth, table, 1, 2, true, 0);
+    zero(table, 32 * (n.cells + 1));
+    put_head(table, n.head(b));
+    0
+}
+
+// Over the box of the lows `lo` and the highs `hi`, in ticks. 0, or the number of the refusal.
+pub fn walk_twice(
+    description: Description,
+    lo: [i64; 3],
+    hi: [i64; 3],
+    depth: i64,
+    table: &mut [u8],
+) -> u32
+    ensures answer { λ r. ⌜ r ≡ walkNumber description lo hi depth (length (now (table .entry))) ⌝ }
+    ensures left { λ _. ⌜ now (table .exit) ≡ walkTable description lo hi depth (now (table .entry)) ⌝ }
+{
+    let made = Gyroid::certified(description);
+    let number = entries(made.refusal, lo, hi, depth);
+    if number != 0 {
+        return number;
+    }
+    let leaf = made.leaf;
+    let b = ShiftedBox::of(lo, hi);
+    run_twice(leaf, b, depth as usize, table)
+}
