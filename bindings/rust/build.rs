@@ -86,6 +86,8 @@ fn main() {
             println!("cargo::rerun-if-changed={}", archive.display());
             println!("cargo::rustc-link-search=native={}", directory.display());
             println!("cargo::rustc-link-lib=static=capi");
+            // For a package that links more from there.
+            println!("cargo::metadata=directory={}", directory.display());
         }
         Err(why) => println!("cargo::error={why}"),
     }

@@ -310,7 +310,7 @@ pub fn fast(description: &Description, point: [f64; 3]) -> Result<f64, Refusal> 
 /// cells in the lent table: [`Table`] reads it. One cell takes 32 bytes and so does the head.
 ///
 /// Every byte of the table is written. Refused by 13, for want of room, every byte is zero; refused by another number
-/// the table is as it was.
+/// the table is as it was. 13 comes at the first cell without a slot, so a table that is far too small costs little.
 ///
 /// ```
 /// use gyroid_cells::{Bounds, Description, State, walk};

@@ -1,5 +1,5 @@
-//! Document 01's walk in plain Rust over the original's box state, which is all that the original has of it; for the
-//! primitive surface over document 02's. The tree is walked twice: to count it, then to write it.
+//! The walk of documents 01 and 02 in plain Rust over the original's box state, which is all that the original has of it;
+//! for the primitive surface over document 02's. It makes one pass: a cell is written as the walk comes to it.
 
 use crate::added;
 use reference::Leaf;
@@ -31,16 +31,17 @@ fn halves(bounds: &Bounds) -> Option<[Bounds; 2]> {
     (longest > 1).then_some([lower, upper])
 }
 
-/// Gives every cell of the box and its state to `cell`, in walk order; answers how many boxes were evaluated.
-fn walk(leaf: &Leaf, bounds: &Bounds, depth: i64, cell: &mut impl FnMut(u32, &Bounds)) -> u32 {
+/// Gives every cell of the box and its state to `cell`, in walk order, until that answers false, and then looks at no
+/// further box. Answers how many boxes were evaluated; nothing where it was stopped.
+fn walk(leaf: &Leaf, bounds: &Bounds, depth: i64, cell: &mut impl FnMut(u32, &Bounds) -> bool) -> Option<u32> {
     let state = leaf.state(bounds);
     let halves = if state == UNSETTLED && depth > 0 { halves(bounds) } else { None };
     match halves {
-        Some([lower, upper]) => 1 + walk(leaf, &lower, depth - 1, cell) + walk(leaf, &upper, depth - 1, cell),
-        None => {
-            cell(state, bounds);
-            1
+        Some([lower, upper]) => {
+            let lower = walk(leaf, &lower, depth - 1, cell)?;
+            Some(1 + lower + walk(leaf, &upper, depth - 1, cell)?)
         }
+        None => cell(state, bounds).then_some(1),
     }
 }
 
@@ -51,27 +52,32 @@ fn put<const N: usize>(table: &mut [u8], at: usize, numbers: impl IntoIterator<I
     }
 }
 
-/// Walks an accepted box and leaves its table; the status: 0, or 13 where the room is too small.
+/// Writes a cell to its slot, naming the slot after it as the next; false where the table has no such slot.
+fn put_cell(table: &mut [u8], slot: u32, state: u32, bounds: &Bounds) -> bool {
+    let Some(cell) = table.chunks_exact_mut(SLOT).nth(slot as usize) else { return false };
+    put(cell, 0, [slot + 1, state].map(u32::to_le_bytes));
+    put(cell, 8, bounds.map(|end| (end as i32).to_le_bytes()));
+    true
+}
+
+/// Walks an accepted box and leaves its table; the status: 0, or 13 where the room is too small. "Let the walk write as it
+/// goes and zero the whole table when the cells outgrow it".
 pub fn fill(leaf: &Leaf, bounds: &Bounds, depth: i64, table: &mut [u8]) -> u32 {
+    table.fill(0);
     let (mut cells, mut solid) = (0_u32, 0);
     let evaluated = walk(leaf, bounds, depth, &mut |state, bounds| {
         cells += 1;
         solid += if state == INSIDE { volume(bounds) } else { 0 };
+        put_cell(table, cells, state, bounds)
     });
-    table.fill(0);
-    if cells as usize + 1 > table.len() / SLOT {
+    let Some(evaluated) = evaluated else {
+        table.fill(0);
         return 13;
-    }
+    };
+    // No cell follows the last.
+    put(table, cells as usize * SLOT, [0_u32.to_le_bytes()]);
     put(table, 0, [1, cells, evaluated].map(u32::to_le_bytes));
     put(table, 12, [solid, volume(bounds) - solid].map(u64::to_le_bytes));
-    let mut slot = 0;
-    walk(leaf, bounds, depth, &mut |state, bounds| {
-        slot += 1;
-        let next = if slot == cells { 0 } else { slot + 1 };
-        let at = slot as usize * SLOT;
-        put(table, at, [next, state].map(u32::to_le_bytes));
-        put(table, at + 8, bounds.map(|end| (end as i32).to_le_bytes()));
-    });
     0
 }
 
@@ -81,7 +87,10 @@ pub fn cells(request: &Request) -> Option<u32> {
         return None;
     }
     let mut cells = 0;
-    walk(&Leaf::new(&request.description)?, &request.whole, request.depth, &mut |_, _| cells += 1);
+    walk(&Leaf::new(&request.description)?, &request.whole, request.depth, &mut |_, _| {
+        cells += 1;
+        true
+    })?;
     Some(cells)
 }
 
@@ -111,6 +120,7 @@ pub fn answer(request: &Request) -> Answer {
 #[cfg(test)]
 mod tests {
     use super::*;
+    use crate::walks;
     use gyroid_cells::Table;
 
     const LISTING: &str = "walk 10240 0 0 0 0 0 0 0 0 2048 0 1 0 0 0 0 0 0 0 0 0 1024 1024 1024";
@@ -152,6 +162,19 @@ mod tests {
         assert_eq!(asked(1, 95), Walked { status: 13, table: vec![0; 95] });
         assert_eq!(asked(0, 63), Walked { status: 13, table: vec![0; 63] });
         assert_eq!(asked(25, 63), Walked { status: 12, table: unwritten(63) });
+    }
+
+    /// At the first cell without a slot the walk stops: no further cell is come to, of 2^24 that are there.
+    #[test]
+    fn stops_where_the_table_is_full() {
+        let request = walks::hopeless();
+        let Some(leaf) = Leaf::new(&request.description) else { return };
+        let mut come_to = 0;
+        let evaluated = walk(&leaf, &request.whole, request.depth, &mut |_, _| {
+            come_to += 1;
+            come_to < 100
+        });
+        assert_eq!((come_to, evaluated), (100, None));
     }
 
     /// A fraction of the stand-in overflows on this description: only what document 01 accepts is given to the

@@ -123,16 +123,18 @@ fn hairs(out: &mut Vec<Request>) {
     out.extend(boxes.map(|(level, whole)| exact(primitive(constant(TICKS, level)), whole, 1)));
 }
 
-/// Tables about the room that a walk wants.
+/// Tables about the room that a walk wants, and a walk that none holds.
 fn rooms(out: &mut Vec<Request>) {
     let ramp = ramp(10240, 0, [0, 10240], [-256, 256]);
     let walks = [
         exact(constant(10240, 2048), [0, 0, 0, 1024, 1024, 1024], 1),
         exact(constant(10240, 2048), [0, 0, 0, 1024, 1024, 1024], 0),
         exact(ramp, [-1000, -7, 0, 3000, 2000, 2500], 5),
+        exact(primitive(ramp), [-1000, 1000, 2000, 3000, 3500, 4500], 8),
     ];
+    out.push(Request { table: LONGEST, ..walks::hopeless() });
     for walk in walks {
-        let about = [-32, -1, 1, 31, 32, 103].map(|more| walk.table.saturating_add_signed(more));
+        let about = [-32, -1, 0, 1, 31, 32, 103].map(|more| walk.table.saturating_add_signed(more));
         out.extend([0, 1, 31, 32, 63].into_iter().chain(about).map(|table| Request { table, ..walk }));
     }
 }

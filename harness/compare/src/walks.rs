@@ -3,7 +3,7 @@
 use crate::chance::Chance;
 use crate::entries::*;
 use crate::{specials, walk};
-use request::{Request, SLOT};
+use request::{Call, Request, SLOT};
 
 /// The cells of a tree that is walked as deep as it goes.
 const FEW: u64 = 4096;
@@ -102,23 +102,38 @@ pub const ROWS: [fn(&mut Request); 7] = [
     |r| r.table = 0,
 ];
 
-/// Depths and lengths of a table at their limits.
-pub fn systematic(quiet: &Request, out: &mut Vec<Request>) {
-    for depth in [i64::MIN, -1, 0, 1, 2, 3, 8, 24, 25, i64::MAX] {
-        let cells = walk::cells(&Request { depth, ..*quiet }).unwrap_or(1) as usize;
-        for slots in [0, 1, 2, 3, cells, cells + 1, cells + 2] {
-            for more in [0, 1, 16, 31] {
-                out.push(Request { depth, table: slots * SLOT + more, ..*quiet });
-            }
+/// A walk that no table here can hold: it has 2^24 cells, for nothing settles. It is refused at the first cell without a
+/// slot; to count them all would take seconds.
+pub fn hopeless() -> Request {
+    let mut request = Request::new(Call::Walk, PLAIN);
+    request.description[PERIOD] = 1;
+    request.whole = [-TICKS, -TICKS, -TICKS, TICKS, TICKS, TICKS];
+    (request.depth, request.table) = (24, 65536);
+    request
+}
+
+/// Tables without room for a cell, for two, and about the room that the walk wants.
+fn rooms(walk: &Request, out: &mut Vec<Request>) {
+    let cells = walk::cells(walk).unwrap_or(1) as usize;
+    for slots in [0, 1, 2, 3, cells, cells + 1, cells + 2] {
+        for more in [0, 1, 16, 31] {
+            out.push(Request { table: slots * SLOT + more, ..*walk });
         }
     }
+}
+
+/// Depths and lengths of a table at their limits, and such tables for a box of some thousands of cells.
+pub fn systematic(quiet: &Request, out: &mut Vec<Request>) {
+    for depth in [i64::MIN, -1, 0, 1, 2, 3, 8, 24, 25, i64::MAX] {
+        rooms(&Request { depth, ..*quiet }, out);
+    }
+    rooms(&Request { whole: [0, 0, 0, 20480, 20480, 20480], depth: 12, ..*quiet }, out);
 }
 
 #[cfg(test)]
 mod tests {
     use super::*;
     use crate::{added, cases};
-    use request::Call;
     use std::collections::BTreeMap;
 
     #[test]

@@ -1,31 +1,43 @@
-//! The walk's speed beside the original's, what the guard of the float state costs, and the stack that a walk takes.
-//! Nothing here is a test.
+//! The walk's time beside that of two passes, its speed beside the original's, what the guard of the float state costs,
+//! and the stack that a walk takes. Nothing here is a test.
 
 use compare::race::{Race, cases, race};
 use compare::{guard, stack};
 use std::process::ExitCode;
 use std::time::Duration;
 
-const HELP: &str = "bench: cells a second of whole walks, ours and the original's, and their ratio; then the time of a
-box_state by the bindings, which set the float state and restore it, and by the library itself; then the stack of a walk
-of depth 24
+const HELP: &str = "bench: for each of two cores the time of a walk, which makes one pass, that of a walk in two
+passes, and their ratio, of which document 02 asks at most two thirds; then cells a second in one pass, ours and the
+original's, and their ratio. Then the time of a box_state by the bindings, which set the float state and restore it, and
+by the library itself; then the stack of a walk of depth 24
 
-Each walk is made five times by each side, in turns, and the best time of each counts. Both sides walk the tree twice,
-to count it and to write it. The original has no walk: a plain one over its box_state stands in. The tables are compared
-before anything is timed.";
+Each walk is made five times by each side, in turns, and the best time of each counts. The walk in two passes, to count
+the tree and to write it, is proved too, and kept for this alone. The original has no walk: a plain one over its
+box_state stands in, in one pass. All tables are compared before anything is timed.";
 
 fn a_second(cells: u32, time: Duration) -> f64 {
     f64::from(cells) / time.as_secs_f64()
 }
 
-fn line(name: &str, race: &Race) -> String {
-    let ours = a_second(race.cells, race.ours);
+/// The times of one pass and of two.
+fn passes(race: &Race) -> String {
+    let [one, two] = [race.one_pass, race.two_passes].map(|time| time.as_secs_f64());
+    format!("one pass {:.1} ms, two passes {:.1} ms, ratio {:.3}", 1e3 * one, 1e3 * two, one / two)
+}
+
+/// The speeds of one pass, ours and the original's.
+fn speeds(race: &Race) -> String {
+    let ours = a_second(race.cells, race.one_pass);
     let beside = race.original.map(|time| {
         let original = a_second(race.cells, time);
         format!("the original's {original:.0}, ratio {:.2}", ours / original)
     });
     let beside = beside.unwrap_or("the original is not at hand".into());
-    format!("{name}, {} cells: {ours:.0} cells a second, {beside}", race.cells)
+    format!("{ours:.0} cells a second, {beside}")
+}
+
+fn line(name: &str, race: &Race) -> String {
+    format!("{name}, {} cells: {}; {}", race.cells, passes(race), speeds(race))
 }
 
 /// Prints a line, or why there is none; whether there was one.
