@@ -8,7 +8,7 @@ use Rattle.tree.specs.Box.{Good, boxOf}
 use Rattle.tree.specs.declared.Axis.the-variants.{X, Y, Z}
 use Rattle.tree.specs.declared.ShiftedBox.{ShiftedBox}
 use Rattle.tree.proofs.ShiftedLaws.{good-shifted}
-use Rattle.table.specs.Table.{Mark}
+use Rattle.table.specs.Table.{Record}
 use Rattle.table.specs.Bounds.{WithinTicks, FitsI32, Fits}
 
 -- the code's
@@ -31,7 +31,7 @@ low-fits {l} {h} p q r = record { least = omega zarith; most = omega zarith }
 high-fits : {l h : ℤ} → l <ℤ h → negsuc 1048575 ≤ℤ l → h ≤ℤ pos 1048576 → FitsI32 h
 high-fits {l} {h} p q r = record { least = omega zarith; most = omega zarith }
 
-pub good-fits : (m : Mark) → m .state < 4294967296 → Good (m .box) → Fits m
+pub good-fits : (m : Record) → m .state < 4294967296 → Good (m .box) → Fits m
 good-fits m h g = record {
   state = h;
   lx = low-fits (g .spans X) (g .least X) (g .most X);

@@ -4,13 +4,13 @@ use mathlib.Core.List.{List, [], _∷_, _++_}
 use Prim.Native.Nat.{ℕ}
 use lib.IntN.{pos, negsuc}
 use Rattle.table.specs.declared.Head.{Head}
-use Rattle.table.specs.Table.{Mark, word4, word8, headBytes, cellBytes, cellsBytes, tableBytes}
-use Rattle.table.specs.Read.{headIn, marksIn, chain, markIn}
+use Rattle.table.specs.Table.{Record, word4, word8, headBytes, cellBytes, cellsBytes, tableBytes}
+use Rattle.table.specs.Read.{headIn, recordsIn, chain, recordIn}
 
-lower : Mark
+lower : Record
 lower = record { state = 1; box = record { lx = negsuc 1; ly = pos 0; lz = pos 0; hx = negsuc 0; hy = pos 1; hz = pos 1 } }
 
-upper : Mark
+upper : Record
 upper = record { state = 3; box = record { lx = negsuc 0; ly = pos 0; lz = pos 0; hx = pos 0; hy = pos 1; hz = pos 1 } }
 
 bytes : List ℕ
@@ -34,6 +34,6 @@ read-head : headIn bytes ≡ head
 unfolding head bytes
 read-head = refl
 
-read-cells : marksIn bytes ≡ lower ∷ upper ∷ []
-unfolding chain markIn lower upper bytes
+read-cells : recordsIn bytes ≡ lower ∷ upper ∷ []
+unfolding chain recordIn lower upper bytes
 read-cells = refl

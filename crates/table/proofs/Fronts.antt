@@ -8,8 +8,8 @@ use lib.IntN.{ℤ}
 use lib.ListN.{drop, getD}
 use lib.Seq.{getD-drop}
 use Rattle.table.specs.declared.Head.{Head}
-use Rattle.table.specs.Table.{Mark, word4, word8, bits, headBytes, cellBytes}
-use Rattle.table.specs.Read.{u32At, i32At, twosComplement, headIn, nextIn, markIn}
+use Rattle.table.specs.Table.{Record, word4, word8, bits, headBytes, cellBytes}
+use Rattle.table.specs.Read.{u32At, i32At, twosComplement, headIn, nextIn, recordIn}
 use Rattle.table.specs.Bounds.{HeadFits, FitsI32, Fits}
 use Rattle.table.proofs.Words.{digits, two-words, twos-complement-bits, bits-below}
 
@@ -29,7 +29,7 @@ coordinate : (z : ℤ) {w : ℕ} → FitsI32 z → w ≡ bits z % 256 + bits z /
     → twosComplement w ≡ z
 coordinate z h e = ap twosComplement (e ∙ digits (bits z) (bits-below z h)) ∙ twos-complement-bits z h
 
-module _ (next : ℕ) (m : Mark) (r : List ℕ) where
+module _ (next : ℕ) (m : Record) (r : List ℕ) where
   abbrev cell : List ℕ
   cell = cellBytes next m ++ r
 
@@ -37,7 +37,7 @@ module _ (next : ℕ) (m : Mark) (r : List ℕ) where
   unfolding cellBytes word4
   cell-next h = digits next h
 
-  cell-mark : Fits m → record {
+  cell-record : Fits m → record {
     state = u32At cell 4;
     box = record {
       lx = i32At cell 8;
@@ -49,7 +49,7 @@ module _ (next : ℕ) (m : Mark) (r : List ℕ) where
     };
   } ≡ m
   unfolding cellBytes word4
-  cell-mark h = λ i. record {
+  cell-record h = λ i. record {
     state = digits (m .state) (h .state) i;
     box = record {
       lx = coordinate (m .box .lx) (h .lx) refl i;
@@ -80,14 +80,14 @@ word-later t n k = λ i. byte0 i + byte1 i * 256 + byte2 i * 65536 + byte3 i * 1
 word-at : (t f : List ℕ) (n k : ℕ) → drop n t ≡ f → u32At t (n + k) ≡ u32At f k
 word-at t f n k e = word-later t n k ∙ ap (λ (x : List ℕ). u32At x k) e
 
-module _ (t r : List ℕ) (slot next : ℕ) (m : Mark) (e : drop (32 * slot) t ≡ cellBytes next m ++ r) where
+module _ (t r : List ℕ) (slot next : ℕ) (m : Record) (e : drop (32 * slot) t ≡ cellBytes next m ++ r) where
   pub next-at : next < 4294967296 → nextIn t slot ≡ next
   next-at h =
       ap (λ (k : ℕ). u32At t k) (sym (add-zero (32 * slot))) ∙ word-at t (cellBytes next m ++ r) (32 * slot) 0 e ∙ cell-next next m r h
 
-  pub mark-at : Fits m → markIn t slot ≡ m
-  unfolding markIn
-  mark-at h =
+  pub record-at : Fits m → recordIn t slot ≡ m
+  unfolding recordIn
+  record-at h =
       let f : List ℕ = cellBytes next m ++ r in
       (λ i. record {
         state = word-at t f (32 * slot) 4 e i;
@@ -100,4 +100,4 @@ module _ (t r : List ℕ) (slot next : ℕ) (m : Mark) (e : drop (32 * slot) t �
           hz = twosComplement (word-at t f (32 * slot) 28 e i);
         };
       })
-      ∙ cell-mark next m r h
+      ∙ cell-record next m r h

@@ -9,13 +9,13 @@ use native.Mathlib.Omega.{arith}
 use borrow.Author.Tests.{eq-eqb, ne-eqb}
 use lib.ListN.{length}
 use lib.Seq.{sets}
-use Rattle.table.specs.Table.{Mark, cellBytes, nextSlot, cellsBytes}
+use Rattle.table.specs.Table.{Record, cellBytes, nextSlot, cellsBytes}
 use Rattle.table.specs.Placed.{placed}
 use Rattle.table.proofs.Stores.{sets-then}
 use Rattle.table.proofs.Slots.{length-cell}
 
 -- two lists, neither empty: the first of the second goes to the slot behind the first list's
-placed-append : (t : List ℕ) (slot fresh after : ℕ) (x : Mark) (xs : List Mark) (y : Mark) (ys : List Mark)
+placed-append : (t : List ℕ) (slot fresh after : ℕ) (x : Record) (xs : List Record) (y : Record) (ys : List Record)
     → placed t slot fresh after ((x ∷ xs) ++ (y ∷ ys))
     ≡ placed (placed t slot fresh (fresh + length xs) (x ∷ xs)) (fresh + length xs) (suc (fresh + length xs)) after (y ∷ ys)
 unfolding placed
@@ -28,7 +28,7 @@ placed-append t slot fresh after x (z ∷ xs) y ys =
 
 module _ (t : List ℕ) (slot fresh : ℕ) (last : Bool) (after : ℕ) where
   -- the writer at a cell
-  pub placed-cell : {next n : ℕ} {m : Mark} {r : List ℕ} {ms : List Mark} → r ≡ sets t (32 * slot) (cellBytes next m) → next ≡ cond last after fresh
+  pub placed-cell : {next n : ℕ} {m : Record} {r : List ℕ} {ms : List Record} → r ≡ sets t (32 * slot) (cellBytes next m) → next ≡ cond last after fresh
       → n ≡ 1 → ms ≡ m ∷ [] → r ≡ placed t slot fresh (cond last after (fresh + n - 1)) ms
   unfolding placed
   placed-cell {n} e f one g =
@@ -36,7 +36,7 @@ module _ (t : List ℕ) (slot fresh : ℕ) (last : Bool) (after : ℕ) where
       rw (g, same, ← f) e
 
   -- the writer at two halves of n and p cells: those of the lower, whose last is not the last of all, and then those of the upper
-  pub placed-halves : {mid n p q : ℕ} {l r : List ℕ} (xs ys : List Mark) {ms : List Mark} → length xs ≡ n → length ys ≡ p → 1 ≤ n → 1 ≤ p → q ≡ n + p
+  pub placed-halves : {mid n p q : ℕ} {l r : List ℕ} (xs ys : List Record) {ms : List Record} → length xs ≡ n → length ys ≡ p → 1 ≤ n → 1 ≤ p → q ≡ n + p
       → mid ≡ fresh + n - 1 → ms ≡ xs ++ ys → l ≡ placed t slot fresh (cond false after (fresh + n - 1)) xs
       → r ≡ placed l mid (mid + 1) (cond last after (mid + 1 + p - 1)) ys
       → r ≡ placed t slot fresh (cond last after (fresh + q - 1)) ms
@@ -53,7 +53,7 @@ module _ (t : List ℕ) (slot fresh : ℕ) (last : Bool) (after : ℕ) where
       ∙ sym (placed-append t slot fresh name x xs y ys) ∙ ap (placed t slot fresh name) (sym es)
 
 -- a table's cells, in the slots 1, 2, ..
-pub placed-cells : (t : List ℕ) (total slot : ℕ) (ms : List Mark) → slot + length ms ≡ total + 1
+pub placed-cells : (t : List ℕ) (total slot : ℕ) (ms : List Record) → slot + length ms ≡ total + 1
     → placed t slot (suc slot) 0 ms ≡ sets t (32 * slot) (cellsBytes total slot ms)
 unfolding placed cellsBytes
 placed-cells t total slot [] h = refl

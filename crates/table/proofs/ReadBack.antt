@@ -8,28 +8,28 @@ use borrow.Author.Tests.{eq-eqb, ne-eqb}
 use lib.ListN.{length, drop, replicate}
 use lib.Seq.{drop-drop, drop-at}
 use Rattle.table.specs.declared.Head.{Head}
-use Rattle.table.specs.Table.{Mark, headBytes, cellBytes, nextSlot, cellsBytes, tableBytes}
+use Rattle.table.specs.Table.{Record, headBytes, cellBytes, nextSlot, cellsBytes, tableBytes}
 use Rattle.table.specs.Read.{firstIn, cellsIn, headIn, nextIn, chain, chainEnd}
 use Rattle.table.specs.Bounds.{HeadFits, AllFit}
 use Rattle.table.specs.Told.{Told}
 use Rattle.table.proofs.Slots.{length-head, length-cell}
-use Rattle.table.proofs.Fronts.{head-front, next-at, mark-at}
+use Rattle.table.proofs.Fronts.{head-front, next-at, record-at}
 
 -- the chain of cells that stand in a list from a slot on
-record Chained (t : List ℕ) (slot : ℕ) (ms : List Mark) : Type 0 where
-  marks-are : chain (length ms) t slot ≡ ms
+record Chained (t : List ℕ) (slot : ℕ) (ms : List Record) : Type 0 where
+  records-are : chain (length ms) t slot ≡ ms
   ends : 0 < length ms → chainEnd (length ms) t slot ≡ 0
 
-chained : (t rest : List ℕ) (total slot : ℕ) (ms : List Mark) → AllFit ms → slot + length ms ≡ total + 1 → total < 4294967296
+chained : (t rest : List ℕ) (total slot : ℕ) (ms : List Record) → AllFit ms → slot + length ms ≡ total + 1 → total < 4294967296
     → drop (32 * slot) t ≡ cellsBytes total slot ms ++ rest → Chained t slot ms
 unfolding chain chainEnd cellsBytes
-chained t rest total slot [] g n h e = record { marks-are = refl; ends = λ p. absurd (omega arith) }
+chained t rest total slot [] g n h e = record { records-are = refl; ends = λ p. absurd (omega arith) }
 chained t rest total slot (m ∷ []) g n h e =
     let here : slot ≡ total = omega arith in
     let next : nextSlot total slot ≡ 0 = rw (eq-eqb slot total here) in
     let front = e ∙ append-assoc (cellBytes (nextSlot total slot) m) [] rest in
     record {
-      marks-are = ap (λ (x : Mark). x ∷ []) (mark-at t rest slot (nextSlot total slot) m front (g .0));
+      records-are = ap (λ (x : Record). x ∷ []) (record-at t rest slot (nextSlot total slot) m front (g .0));
       ends = λ p. next-at t rest slot (nextSlot total slot) m front (omega arith) ∙ next;
     }
 chained t rest total slot (m ∷ k ∷ ms) g n h e =
@@ -44,12 +44,12 @@ chained t rest total slot (m ∷ k ∷ ms) g n h e =
     ∙ drop-at first later 32 (length-cell (nextSlot total slot) m) in
     let others = chained t rest total (suc slot) (k ∷ ms) (g .1) (omega arith) h on in
     record {
-      marks-are = (λ i. mark-at t later slot (nextSlot total slot) m front (g .0) i ∷ chain (length (k ∷ ms)) t (goes i))
-          ∙ ap (λ (x : List Mark). m ∷ x) (others .marks-are);
+      records-are = (λ i. record-at t later slot (nextSlot total slot) m front (g .0) i ∷ chain (length (k ∷ ms)) t (goes i))
+          ∙ ap (λ (x : List Record). m ∷ x) (others .records-are);
       ends = λ p. ap (λ (j : ℕ). chainEnd (length (k ∷ ms)) t j) goes ∙ others .ends (omega arith);
     }
 
-pub told : (len : ℕ) (h : Head) (ms : List Mark) → HeadFits h → AllFit ms → h .first ≡ 1 → h .cells ≡ length ms → Told (tableBytes len h ms) h ms
+pub told : (len : ℕ) (h : Head) (ms : List Record) → HeadFits h → AllFit ms → h .first ≡ 1 → h .cells ≡ length ms → Told (tableBytes len h ms) h ms
 unfolding tableBytes
 told len h ms f g e n =
     let head : List ℕ = headBytes h in
@@ -64,6 +64,6 @@ told len h ms f g e n =
     (ap (λ (x : List ℕ). drop 32 x) front ∙ drop-at head (cells ++ zeros) 32 (length-head h)) in
     record {
       head-is = read;
-      marks-are = (λ i. chain (many i) t (first i)) ∙ all .marks-are;
+      records-are = (λ i. chain (many i) t (first i)) ∙ all .records-are;
       ends = λ p. (λ i. chainEnd (many i) t (first i)) ∙ all .ends p;
     }

@@ -9,7 +9,7 @@ use lib.Dec.{ltb}
 use lib.IntN.{pos, negsuc}
 use lib.ListN.{length, getD, List·getD-eq-default}
 use Rattle.exact.specs.Within.{Within}
-use Rattle.table.specs.Read.{u32At, i32At, twosComplement, nextIn, markIn, chain}
+use Rattle.table.specs.Read.{u32At, i32At, twosComplement, nextIn, recordIn, chain}
 
 -- ---- the chain
 pub chain-end : (n : ℕ) (t : List ℕ) (slot : ℕ) → n ≤ 0 → chain n t slot ≡ []
@@ -17,7 +17,7 @@ unfolding chain
 chain-end zero t slot h = refl
 chain-end (suc n) t slot h = absurd (omega arith)
 
-pub chain-step : (n : ℕ) (t : List ℕ) (slot : ℕ) → 0 < n → chain n t slot ≡ markIn t slot ∷ chain (n - 1) t (nextIn t slot)
+pub chain-step : (n : ℕ) (t : List ℕ) (slot : ℕ) → 0 < n → chain n t slot ≡ recordIn t slot ∷ chain (n - 1) t (nextIn t slot)
 unfolding chain
 chain-step zero t slot h = absurd (omega arith)
 chain-step (suc n) t slot h = let e : suc n - 1 ≡ n = omega arith in rw e
@@ -28,7 +28,7 @@ length-chain zero t slot = refl
 length-chain (suc n) t slot = ap suc (length-chain n t (nextIn t slot))
 
 -- ---- a cell's fields, in the order of its bytes
-pub mark-is : (t : List ℕ) (slot : ℕ) → markIn t slot ≡ record {
+pub record-is : (t : List ℕ) (slot : ℕ) → recordIn t slot ≡ record {
   state = u32At t (32 * slot + 4);
   box = record {
     lx = i32At t (32 * slot + 8);
@@ -39,8 +39,8 @@ pub mark-is : (t : List ℕ) (slot : ℕ) → markIn t slot ≡ record {
     hz = i32At t (32 * slot + 28);
   };
 }
-unfolding markIn
-mark-is t slot = refl
+unfolding recordIn
+record-is t slot = refl
 
 -- ---- past the end
 pub u32-past : (t : List ℕ) (i : ℕ) → length t ≤ i → u32At t i ≡ 0

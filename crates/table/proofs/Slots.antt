@@ -5,18 +5,18 @@ use Prim.Native.Nat.{ℕ, suc, _*_}
 use native.Mathlib.Omega.{arith}
 use lib.ListN.{length, length-append}
 use Rattle.table.specs.declared.Head.{Head}
-use Rattle.table.specs.Table.{Mark, headBytes, cellBytes, nextSlot, cellsBytes}
+use Rattle.table.specs.Table.{Record, headBytes, cellBytes, nextSlot, cellsBytes}
 use Rattle.table.proofs.Words.{length-word4, length-word8}
 
 pub length-head : (h : Head) → length (headBytes h) ≡ 32
 unfolding headBytes
 length-head h = simp (length-append, length-word4, length-word8)
 
-pub length-cell : (next : ℕ) (m : Mark) → length (cellBytes next m) ≡ 32
+pub length-cell : (next : ℕ) (m : Record) → length (cellBytes next m) ≡ 32
 unfolding cellBytes
 length-cell next m = simp (length-append, length-word4)
 
-pub length-cells-bytes : (total slot : ℕ) (ms : List Mark) → length (cellsBytes total slot ms) ≡ 32 * length ms
+pub length-cells-bytes : (total slot : ℕ) (ms : List Record) → length (cellsBytes total slot ms) ≡ 32 * length ms
 unfolding cellsBytes
 length-cells-bytes total slot [] = refl
 length-cells-bytes total slot (m ∷ ms) =

@@ -6,11 +6,11 @@ use native.Mathlib.Omega.{arith}
 use lib.ListN.{length, take, drop, replicate, length-append, length-replicate}
 use lib.Seq.{sets, sets-eq, drop-at, drop-length, length-take-le, length-sets}
 use Rattle.table.specs.declared.Head.{Head}
-use Rattle.table.specs.Table.{Mark, headBytes, cellsBytes, tableBytes}
+use Rattle.table.specs.Table.{Record, headBytes, cellsBytes, tableBytes}
 use Rattle.table.proofs.Stores.{sets-then}
 use Rattle.table.proofs.Slots.{length-head, length-cells-bytes}
 
-pub length-table : (len : ℕ) (h : Head) (ms : List Mark) → 32 * (length ms + 1) ≤ len → length (tableBytes len h ms) ≡ len
+pub length-table : (len : ℕ) (h : Head) (ms : List Record) → 32 * (length ms + 1) ≤ len → length (tableBytes len h ms) ≡ len
 unfolding tableBytes
 length-table len h ms fits =
     let head : List ℕ = headBytes h in
@@ -37,7 +37,7 @@ zeroed t e =
     e ∙ ap (λ (k : ℕ). sets t 0 (replicate k z)) all ∙ sets-eq zeros t 0 (omega arith) ∙ ap (λ (l : List ℕ). zeros ++ l) none ∙ append-nil zeros
 
 -- the cells are written, the bytes behind them are set to zero, and slot 0 is written
-pub written : (total : ℕ) (h : Head) (ms : List Mark) (t : List ℕ) {c z r : List ℕ} → c ≡ sets t 32 (cellsBytes total 1 ms)
+pub written : (total : ℕ) (h : Head) (ms : List Record) (t : List ℕ) {c z r : List ℕ} → c ≡ sets t 32 (cellsBytes total 1 ms)
     → z ≡ sets c (32 * (total + 1)) (replicate (length c - 32 * (total + 1)) 0) → r ≡ sets z 0 (headBytes h)
     → length ms ≡ total → 32 * (total + 1) ≤ length t → r ≡ tableBytes (length t) h ms
 unfolding tableBytes

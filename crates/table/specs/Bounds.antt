@@ -5,7 +5,7 @@ use lib.IntN.{ℤ, pos, negsuc}
 use lib.Signed.{_≤ℤ_}
 use Rattle.tree.specs.declared.ShiftedBox.{ShiftedBox}
 use Rattle.table.specs.declared.Head.{Head}
-use Rattle.table.specs.Table.{Mark}
+use Rattle.table.specs.Table.{Record}
 
 -- the coordinates of the code's box are those of ticks of −2^20 to 2^20
 pub record WithinTicks (b : ShiftedBox) : Type 0 where
@@ -30,7 +30,7 @@ pub record FitsI32 (z : ℤ) : Type 0 where
   pub most : z ≤ℤ pos 2147483647
 
 -- a cell whose state is a u32 and whose coordinates are i32
-pub record Fits (m : Mark) : Type 0 where
+pub record Fits (m : Record) : Type 0 where
   pub state : m .state < 4294967296
   pub lx : FitsI32 (m .box .lx)
   pub ly : FitsI32 (m .box .ly)
@@ -40,6 +40,6 @@ pub record Fits (m : Mark) : Type 0 where
   pub hz : FitsI32 (m .box .hz)
 
 -- so are all cells of a list
-abbrev pub AllFit : List Mark → Type 0
+abbrev pub AllFit : List Record → Type 0
 AllFit [] = Unit {0}
 AllFit (m ∷ ms) = Fits m × AllFit ms

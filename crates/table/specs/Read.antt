@@ -7,7 +7,7 @@ use lib.Dec.{ltb}
 use lib.IntN.{ℤ, pos, negsuc}
 use lib.ListN.{getD}
 use Rattle.table.specs.declared.Head.{Head}
-use Rattle.table.specs.Table.{Mark}
+use Rattle.table.specs.Table.{Record}
 
 -- a u32, a u64 and an i32 at an index, "little endian"
 abbrev pub u32At : List ℕ → ℕ → ℕ
@@ -46,8 +46,8 @@ headIn t = record { first = firstIn t; cells = cellsIn t; evaluated = evaluatedI
 abbrev pub nextIn : List ℕ → ℕ → ℕ
 nextIn t slot = u32At t (32 * slot)
 
-unfoldable pub markIn : List ℕ → ℕ → Mark
-markIn t slot = record {
+unfoldable pub recordIn : List ℕ → ℕ → Record
+recordIn t slot = record {
   state = u32At t (32 * slot + 4);
   box = record {
     lx = i32At t (32 * slot + 8);
@@ -60,14 +60,14 @@ markIn t slot = record {
 }
 
 -- ---- the chain: n cells from a slot on, and the slot that the last of them names
-unfoldable pub chain : ℕ → List ℕ → ℕ → List Mark
+unfoldable pub chain : ℕ → List ℕ → ℕ → List Record
 chain zero t slot = []
-chain (suc n) t slot = markIn t slot ∷ chain n t (nextIn t slot)
+chain (suc n) t slot = recordIn t slot ∷ chain n t (nextIn t slot)
 
 unfoldable pub chainEnd : ℕ → List ℕ → ℕ → ℕ
 chainEnd zero t slot = slot
 chainEnd (suc n) t slot = chainEnd n t (nextIn t slot)
 
 -- the cells of a table, in the order of its chain
-abbrev pub marksIn : List ℕ → List Mark
-marksIn t = chain (cellsIn t) t (firstIn t)
+abbrev pub recordsIn : List ℕ → List Record
+recordsIn t = chain (cellsIn t) t (firstIn t)

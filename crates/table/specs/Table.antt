@@ -22,7 +22,7 @@ bits (pos n) = n
 bits (negsuc n) = 4294967295 - n
 
 -- a cell as the table has it: its "state (u32: 1 inside, 2 outside, 3 unsettled), three lows, three highs"
-pub record Mark : Type 0 where
+pub record Record : Type 0 where
   pub state : ℕ
   pub box : Box
 
@@ -31,7 +31,7 @@ unfoldable pub headBytes : Head → List ℕ
 headBytes h = word4 (h .first) ++ word4 (h .cells) ++ word4 (h .evaluated) ++ word8 (h .solid) ++ word8 (h .«open») ++ replicate 4 0
 
 -- "A cell: next slot (u32, zero ends the chain), state (u32 ..), three lows, three highs (i32)."
-unfoldable pub cellBytes : ℕ → Mark → List ℕ
+unfoldable pub cellBytes : ℕ → Record → List ℕ
 cellBytes next m =
     word4 next ++ word4 (m .state)
     ++ (word4 (bits (m .box .lx)) ++ word4 (bits (m .box .ly)) ++ word4 (bits (m .box .lz)))
@@ -42,10 +42,10 @@ abbrev pub nextSlot : ℕ → ℕ → ℕ
 nextSlot total slot = cond (eqb slot total) 0 (slot + 1)
 
 -- "Cells fill slots 1, 2, ... in walk order": the slots of a list of cells from `slot` on
-unfoldable pub cellsBytes : ℕ → ℕ → List Mark → List ℕ
+unfoldable pub cellsBytes : ℕ → ℕ → List Record → List ℕ
 cellsBytes total slot [] = []
 cellsBytes total slot (m ∷ ms) = cellBytes (nextSlot total slot) m ++ cellsBytes total (suc slot) ms
 
 -- a table of `len` bytes; "all later bytes are zero"
-unfoldable pub tableBytes : ℕ → Head → List Mark → List ℕ
+unfoldable pub tableBytes : ℕ → Head → List Record → List ℕ
 tableBytes len h ms = headBytes h ++ cellsBytes (length ms) 1 ms ++ replicate (len - 32 * (length ms + 1)) 0

@@ -5,10 +5,10 @@ use mathlib.Core.List.{List}
 use Prim.Native.Nat.{ℕ, _<_}
 use lib.ListN.{length}
 use Rattle.table.specs.declared.Head.{Head}
-use Rattle.table.specs.Table.{Mark}
-use Rattle.table.specs.Read.{firstIn, cellsIn, headIn, marksIn, chainEnd}
+use Rattle.table.specs.Table.{Record}
+use Rattle.table.specs.Read.{firstIn, cellsIn, headIn, recordsIn, chainEnd}
 
-pub record Told (t : List ℕ) (h : Head) (ms : List Mark) : Type 0 where
+pub record Told (t : List ℕ) (h : Head) (ms : List Record) : Type 0 where
   pub head-is : headIn t ≡ h
-  pub marks-are : marksIn t ≡ ms
+  pub records-are : recordsIn t ≡ ms
   pub ends : 0 < length ms → chainEnd (cellsIn t) t (firstIn t) ≡ 0

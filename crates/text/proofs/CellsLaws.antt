@@ -14,7 +14,7 @@ use Rattle.exact.proofs.Signed.{back}
 use Rattle.grade.specs.Grade.{at}
 use Rattle.grade.proofs.RefusalLaws.{refused-is, answer-is}
 use Rattle.table.specs.declared.Head.{Head}
-use Rattle.table.specs.Table.{Mark}
+use Rattle.table.specs.Table.{Record}
 use Rattle.grade.specs.InUse.{inUse}
 use Rattle.walk.specs.Demand.{Every}
 use Rattle.walk.proofs.TableLaws.{InTree, Tells, tells}
@@ -30,12 +30,12 @@ pub entry : (ns : List ℤ) (i : ℕ) → mag (at ns i) < 2 ^ 63 → toZ w64 (of
 entry ns i h = back (record { sfits = h })
 
 -- ---- its listing fits the buffer
-short : (ms : List Mark) → Every InTree ms → AllShort ms
+short : (ms : List Record) → Every InTree ms → AllShort ms
 short [] h = tt
 short (m ∷ ms) h = (good-short m (omega (arith, h .0 .state)) (h .0 .good), short ms (h .1))
 
-tells-fit : (t : List ℕ) {n : ℕ} {h : Head} (ms : List Mark) → n ≡ 2048 → Tells n t h ms → length (listing t) ≤ 131072
-tells-fit t ms e w = listing-fits t _ ms (w .told) (w .head-fits) (omega (arith, w .fits)) (short ms (w .marks))
+tells-fit : (t : List ℕ) {n : ℕ} {h : Head} (ms : List Record) → n ≡ 2048 → Tells n t h ms → length (listing t) ≤ 131072
+tells-fit t ms e w = listing-fits t _ ms (w .told) (w .head-fits) (omega (arith, w .fits)) (short ms (w .records))
 
 fits : (ns : List ℤ) → numberOf ns (length freshTable) ≡ 0 → length (listing (tableOf ns freshTable)) ≤ 131072
 unfolding numberOf tableOf freshTable

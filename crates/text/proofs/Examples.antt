@@ -7,7 +7,7 @@ use native.Mathlib.Omega.{arith}
 use lib.IntN.{ℤ, pos, negsuc}
 use lib.ListN.{getD}
 use Rattle.table.specs.declared.Head.{Head}
-use Rattle.table.specs.Table.{Mark}
+use Rattle.table.specs.Table.{Record}
 use Rattle.table.specs.Told.{Told}
 use Rattle.text.specs.Ascii.{ascii}
 use Rattle.text.specs.Line.{digitsAt, numberAt, lineFrom, refusedLine, lineOf}
@@ -102,7 +102,7 @@ byte-behind a = differ (ap (λ (l : List ℕ). getD l 1 0) (a .written))
     differ e = omega arith
 
 -- document 01's cells
-cells : List Mark
+cells : List Record
 cells =
     record { state = 1; box = record { lx = pos 0; ly = pos 0; lz = pos 0; hx = pos 512; hy = pos 1024; hz = pos 1024 } }
     ∷ record { state = 3; box = record { lx = pos 512; ly = pos 0; lz = pos 0; hx = pos 1024; hy = pos 1024; hz = pos 1024 } }

@@ -13,7 +13,7 @@ use Rattle.exact.proofs.Size.{within-of-bounds}
 use Rattle.tree.specs.Box.{Good}
 use Rattle.tree.specs.declared.Axis.the-variants.{X, Y, Z}
 use Rattle.table.specs.declared.Head.{Head}
-use Rattle.table.specs.Table.{Mark}
+use Rattle.table.specs.Table.{Record}
 use Rattle.table.specs.Bounds.{HeadFits}
 use Rattle.table.specs.Told.{Told}
 use Rattle.text.specs.Decimal.{decimal, signedDecimal}
@@ -36,7 +36,7 @@ coordinate z w = go (ltZ z (pos 0)) refl
 corner : (x y z : ℤ) → Within 1048576 x → Within 1048576 y → Within 1048576 z → length (cornerText x y z) ≤ 27
 corner x y z hx hy hz = omega (arith, length-corner x y z, coordinate x hx, coordinate y hy, coordinate z hz)
 
-line : (m : Mark) → Short m → length (cellLine m) ≤ 56
+line : (m : Record) → Short m → length (cellLine m) ≤ 56
 line m s =
     omega (
       arith,
@@ -46,7 +46,7 @@ line m s =
       corner (m .box .hx) (m .box .hy) (m .box .hz) (s .hx) (s .hy) (s .hz),
     )
 
-lines : (ms : List Mark) → AllShort ms → length (cellLines ms) ≤ 56 * length ms
+lines : (ms : List Record) → AllShort ms → length (cellLines ms) ≤ 56 * length ms
 unfolding cellLines
 lines [] s = omega arith
 lines (m ∷ ms) s = omega (arith, length-append (cellLine m) (cellLines ms), line m (s .0), lines ms (s .1))
@@ -69,7 +69,7 @@ low-within {l} {h} p q r = within-of-bounds 1048576 q (omega zarith)
 high-within : {l h : ℤ} → l <ℤ h → negsuc 1048575 ≤ℤ l → h ≤ℤ pos 1048576 → Within 1048576 h
 high-within {l} {h} p q r = within-of-bounds 1048576 (omega zarith) r
 
-pub good-short : (m : Mark) → m .state < 10 → Good (m .box) → Short m
+pub good-short : (m : Record) → m .state < 10 → Good (m .box) → Short m
 good-short m h g = record {
   state = h;
   lx = low-within (g .spans X) (g .least X) (g .most X);
@@ -81,10 +81,10 @@ good-short m h g = record {
 }
 
 -- what is printed of a table is what the table tells
-pub listing-told : (t : List ℕ) (h : Head) (ms : List Mark) → Told t h ms → listing t ≡ headLine h ++ cellLines ms
+pub listing-told : (t : List ℕ) (h : Head) (ms : List Record) → Told t h ms → listing t ≡ headLine h ++ cellLines ms
 unfolding listing
-listing-told t h ms r = λ i. headLine (r .head-is i) ++ cellLines (r .marks-are i)
+listing-told t h ms r = λ i. headLine (r .head-is i) ++ cellLines (r .records-are i)
 
-pub listing-fits : (t : List ℕ) (h : Head) (ms : List Mark) → Told t h ms → HeadFits h → length ms ≤ 2047 → AllShort ms → length (listing t) ≤ 131072
+pub listing-fits : (t : List ℕ) (h : Head) (ms : List Record) → Told t h ms → HeadFits h → length ms ≤ 2047 → AllShort ms → length (listing t) ≤ 131072
 listing-fits t h ms r f n short =
     rw (listing-told t h ms r, length-append (headLine h) (cellLines ms)) (omega (arith, head h f, lines ms short))

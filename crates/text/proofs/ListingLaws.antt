@@ -7,9 +7,9 @@ use native.Mathlib.Omega.{arith}
 use lib.IntN.{ℤ}
 use lib.ListN.{length, length-append}
 use Rattle.table.specs.declared.Head.{Head}
-use Rattle.table.specs.Table.{Mark}
-use Rattle.table.specs.Read.{u32At, headIn, markIn, chain}
-use Rattle.table.proofs.ReadLaws.{mark-is, chain-end, chain-step}
+use Rattle.table.specs.Table.{Record}
+use Rattle.table.specs.Read.{u32At, headIn, recordIn, chain}
+use Rattle.table.proofs.ReadLaws.{record-is, chain-end, chain-step}
 use Rattle.text.specs.Decimal.{decimal, signedDecimal}
 use Rattle.text.specs.Listing.{spaced, refusedText, headLine, cornerText, cellLine, cellLines, listing}
 use Rattle.text.specs.Appended.{cornerAt}
@@ -35,7 +35,7 @@ corner-is x y z = refl
 pub length-corner : (x y z : ℤ) → length (cornerText x y z) ≡ length (signedDecimal x) + length (signedDecimal y) + length (signedDecimal z) + 3
 length-corner x y z = rw corner-is (simp length-append (omega arith))
 
-pub length-line : (m : Mark)
+pub length-line : (m : Record)
     → length (cellLine m)
     ≡ length (decimal (m .state)) + length (cornerText (m .box .lx) (m .box .ly) (m .box .lz))
     + length (cornerText (m .box .hx) (m .box .hy) (m .box .hz)) + 1
@@ -43,13 +43,13 @@ unfolding cellLine
 length-line m = simp length-append (omega arith)
 
 -- ---- the line of the cell in a slot
-pub cell-is : (t : List ℕ) (slot : ℕ) → cellLine (markIn t slot) ≡ decimal (u32At t (32 * slot + 4)) ++ cornerAt t slot 8 ++ cornerAt t slot 20 ++ (10 ∷ [])
+pub cell-is : (t : List ℕ) (slot : ℕ) → cellLine (recordIn t slot) ≡ decimal (u32At t (32 * slot + 4)) ++ cornerAt t slot 8 ++ cornerAt t slot 20 ++ (10 ∷ [])
 unfolding cellLine
-cell-is t slot = ap cellLine (mark-is t slot)
+cell-is t slot = ap cellLine (record-is t slot)
 
 pub length-cell : (t : List ℕ) (slot : ℕ)
-    → length (cellLine (markIn t slot)) ≡ length (decimal (u32At t (32 * slot + 4))) + length (cornerAt t slot 8) + length (cornerAt t slot 20) + 1
-length-cell t slot = rw mark-is (length-line _)
+    → length (cellLine (recordIn t slot)) ≡ length (decimal (u32At t (32 * slot + 4))) + length (cornerAt t slot 8) + length (cornerAt t slot 20) + 1
+length-cell t slot = rw record-is (length-line _)
 
 -- ---- the lines of a chain
 pub cells-end : (n : ℕ) (t : List ℕ) (slot : ℕ) → n ≤ 0 → cellLines (chain n t slot) ≡ []
@@ -58,15 +58,15 @@ cells-end n t slot h = ap cellLines (chain-end n t slot h)
 
 -- the slot after this one is named at its start
 pub cells-step : (n : ℕ) (t : List ℕ) (slot : ℕ) {next : ℕ} → 0 < n → next ≡ u32At t (32 * slot + 0)
-    → cellLines (chain n t slot) ≡ cellLine (markIn t slot) ++ cellLines (chain (n - 1) t next)
+    → cellLines (chain n t slot) ≡ cellLine (recordIn t slot) ++ cellLines (chain (n - 1) t next)
 unfolding cellLines
 cells-step n t slot h e =
     ap cellLines (chain-step n t slot h)
-    ∙ ap (λ (s : ℕ). cellLine (markIn t slot) ++ cellLines (chain (n - 1) t s)) (sym (e ∙ ap (u32At t) (add-zero (32 * slot))))
+    ∙ ap (λ (s : ℕ). cellLine (recordIn t slot) ++ cellLines (chain (n - 1) t s)) (sym (e ∙ ap (u32At t) (add-zero (32 * slot))))
 
 pub length-cells-step : (n : ℕ) (t : List ℕ) (slot : ℕ) {next : ℕ} → 0 < n → next ≡ u32At t (32 * slot + 0)
-    → length (cellLines (chain n t slot)) ≡ length (cellLine (markIn t slot)) + length (cellLines (chain (n - 1) t next))
-length-cells-step n t slot {next} h e = rw (cells-step n t slot h e) (length-append (cellLine (markIn t slot)) (cellLines (chain (n - 1) t next)))
+    → length (cellLines (chain n t slot)) ≡ length (cellLine (recordIn t slot)) + length (cellLines (chain (n - 1) t next))
+length-cells-step n t slot {next} h e = rw (cells-step n t slot h e) (length-append (cellLine (recordIn t slot)) (cellLines (chain (n - 1) t next)))
 
 -- ---- the whole, with slot 0 as it is read
 module _ (t : List ℕ) {h : Head} (e : h ≡ headIn t) where

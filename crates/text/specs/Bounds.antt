@@ -2,9 +2,9 @@
 use mathlib.Core.List.{List, [], _∷_}
 use Prim.Native.Nat.{_<_}
 use Rattle.exact.specs.Within.{Within}
-use Rattle.table.specs.Table.{Mark}
+use Rattle.table.specs.Table.{Record}
 
-pub record Short (m : Mark) : Type 0 where
+pub record Short (m : Record) : Type 0 where
   pub state : m .state < 10
   pub lx : Within 1048576 (m .box .lx)
   pub ly : Within 1048576 (m .box .ly)
@@ -14,6 +14,6 @@ pub record Short (m : Mark) : Type 0 where
   pub hz : Within 1048576 (m .box .hz)
 
 -- so are all cells of a list
-abbrev pub AllShort : List Mark → Type 0
+abbrev pub AllShort : List Record → Type 0
 AllShort [] = Unit {0}
 AllShort (m ∷ ms) = Short m × AllShort ms

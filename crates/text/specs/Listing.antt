@@ -6,8 +6,8 @@ use Prim.Native.Nat.{ℕ, _≤_}
 use lib.IntN.{ℤ}
 use lib.ListN.{length, take}
 use Rattle.table.specs.declared.Head.{Head}
-use Rattle.table.specs.Table.{Mark}
-use Rattle.table.specs.Read.{headIn, marksIn}
+use Rattle.table.specs.Table.{Record}
+use Rattle.table.specs.Read.{headIn, recordsIn}
 use Rattle.text.specs.Ascii.{ascii, space, newline}
 use Rattle.text.specs.Decimal.{decimal, signedDecimal}
 
@@ -28,7 +28,7 @@ headLine h =
 unfoldable pub cornerText : ℤ → ℤ → ℤ → List ℕ
 cornerText x y z = spaced (signedDecimal x) ++ spaced (signedDecimal y) ++ spaced (signedDecimal z)
 
-unfoldable pub cellLine : Mark → List ℕ
+unfoldable pub cellLine : Record → List ℕ
 cellLine m =
     decimal (m .state)
     ++ cornerText (m .box .lx) (m .box .ly) (m .box .lz)
@@ -36,13 +36,13 @@ cellLine m =
     ++ (newline ∷ [])
 
 -- "for each cell"
-unfoldable pub cellLines : List Mark → List ℕ
+unfoldable pub cellLines : List Record → List ℕ
 cellLines [] = []
 cellLines (m ∷ ms) = cellLine m ++ cellLines ms
 
 -- what is printed of a table: its cells in the order of its chain
 unfoldable pub listing : List ℕ → List ℕ
-listing t = headLine (headIn t) ++ cellLines (marksIn t)
+listing t = headLine (headIn t) ++ cellLines (recordsIn t)
 
 -- so many bytes at the front of a buffer. The second part follows from the first; a caller's `&out[..r]` asks for both
 abbrev pub Front : ℕ → List ℕ → Type 0

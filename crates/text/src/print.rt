@@ -7,7 +7,7 @@ ghost use lib.IntN.{natAbs};
 ghost use lib.ListN.{length};
 ghost use lib.Seq.{sets};
 ghost use Rattle.exact.specs.Within.{Within};
-ghost use Rattle.table.specs.Read.{u32At, i32At, markIn, chain};
+ghost use Rattle.table.specs.Read.{u32At, i32At, recordIn, chain};
 ghost use Rattle.text.specs.Appended.{Appended, cornerAt};
 ghost use Rattle.text.specs.Decimal.{decimal, signedDecimal};
 ghost use Rattle.text.specs.Listing.{spaced, refusedText, headLine, cellLine, cellLines, listing, Front};
@@ -135,8 +135,8 @@ fn put_corner(table: &[u8], slot: usize, place: usize, out: &mut [u8], at: usize
 // The line of a cell.
 fn put_cell(table: &[u8], slot: usize, out: &mut [u8], at: usize) -> usize
     requires { ⌜ length (now table) ≡ 65536 ⌝ }
-    requires { ⌜ at + length (cellLine (markIn (now table) slot)) ≤ length (now out) ⌝ }
-    ensures { λ r. ⌜ Appended (now (out .entry)) at (cellLine (markIn (now (table .entry)) slot)) (now (out .exit)) r ⌝ }
+    requires { ⌜ at + length (cellLine (recordIn (now table) slot)) ≤ length (now out) ⌝ }
+    ensures { λ r. ⌜ Appended (now (out .entry)) at (cellLine (recordIn (now (table .entry)) slot)) (now (out .exit)) r ⌝ }
 {
     let lows = put_decimal(out, at, u32_of(table, slot, 4));
     let highs = put_corner(table, slot, 8, out, lows);

@@ -33,7 +33,7 @@ use Rattle.tree.proofs.HalfLaws.{by-axis}
 use Rattle.tree.proofs.TickLaws.{ticks-good}
 use Rattle.tree.proofs.CountLaws.{length-cells}
 use Rattle.table.specs.declared.Head.{Head}
-use Rattle.table.specs.Table.{Mark, headBytes, tableBytes}
+use Rattle.table.specs.Table.{Record, headBytes, tableBytes}
 use Rattle.table.specs.Placed.{placed}
 use Rattle.table.proofs.PlacedLaws.{placed-cells}
 use Rattle.table.proofs.Written.{written}
@@ -41,9 +41,9 @@ use Rattle.walk.specs.declared.Counted.{Counted}
 use Rattle.walk.specs.Walk
 use Rattle.walk.specs.Walk.{spans, depths, entryRefusal}
 use Rattle.walk.specs.InUse.{roomRefusal, roomTable, walkNumber, walkTable}
-use Rattle.walk.specs.FunctionsInUse.{settled, cellsOf, marksOf}
+use Rattle.walk.specs.FunctionsInUse.{settled, cellsOf, recordsOf}
 use Rattle.walk.specs.Counted.{headWith}
-use Rattle.walk.proofs.MarkLaws.{marks-leaves}
+use Rattle.walk.proofs.RecordLaws.{records-leaves}
 use Rattle.walk.proofs.CountedLaws.{counted-cells, counted-head}
 use Rattle.walk.proofs.FilledLaws.{HasRoom}
 
@@ -98,14 +98,14 @@ module _ (g : Gyroid) (D : ℕ) (b : Box) (t : List ℕ) where
       (rw e, rw e ez)
 
   -- the table holds them
-  pub room-done : {c : Counted} {h : Head} {m z r : List ℕ} → HasRoom g D b 2 (length t / 32) c → m ≡ placed t 1 2 0 (marksOf g (cellsOf g D b))
+  pub room-done : {c : Counted} {h : Head} {m z r : List ℕ} → HasRoom g D b 2 (length t / 32) c → m ≡ placed t 1 2 0 (recordsOf g (cellsOf g D b))
       → z ≡ sets m (32 * (c .cells + 1)) (replicate (length m - 32 * (c .cells + 1)) 0) → h ≡ headWith c b → r ≡ sets z 0 (headBytes h)
       → (0 ≡ roomRefusal g D b (length t)) × (r ≡ roomTable g D b (length t))
   unfolding Walk.roomRefusal Walk.roomTable Walk.tableOf
   room-done {c} {h} room em ez eh er =
-      let ms : List Mark = marksOf g (cellsOf g D b) in
+      let ms : List Record = recordsOf g (cellsOf g D b) in
       let n = counted-cells g D b (room .counted) in
-      let many = marks-leaves inUse g D 0 b in
+      let many = records-leaves inUse g D 0 b in
       let fits = room .fits in
       let e = le-ltb (length t / 32) (length (cellsOf g D b) + 1) (omega (arith, length-cells (settled g) longest D 0 b)) in
       let w = written (c .cells) h ms t (em ∙ placed-cells t (c .cells) 1 ms (omega (arith, n, many))) ez er (many ∙ sym n) (omega (arith, n)) in

@@ -29,16 +29,16 @@ use Rattle.tree.proofs.SolidLaws.{solid-le}
 use Rattle.tree.proofs.CoverLaws.{cover}
 use Rattle.tree.proofs.StoppedLaws.{stopped}
 use Rattle.table.specs.declared.Head.{Head}
-use Rattle.table.specs.Table.{Mark, tableBytes}
-use Rattle.table.specs.Read.{cellsIn, evaluatedIn, solidIn, marksIn}
+use Rattle.table.specs.Table.{Record, tableBytes}
+use Rattle.table.specs.Read.{cellsIn, evaluatedIn, solidIn, recordsIn}
 use Rattle.table.specs.Bounds.{HeadFits, Fits, AllFit}
 use Rattle.table.specs.Told.{Told}
 use Rattle.table.proofs.BoundLaws.{good-fits}
 use Rattle.table.proofs.ReadBack.{told}
-use Rattle.walk.specs.Walk.{stateAt, isSettled, settled, inside, cellsOf, evaluatedOf, solidOf, markOf, marksOf, headOf, tableOf, roomRefusal, roomTable}
-use Rattle.walk.specs.Demand.{Every, Pairwise, markBoxes, AllBelowZero, AllAboveZero, Undecided, Demand}
+use Rattle.walk.specs.Walk.{stateAt, isSettled, settled, inside, cellsOf, evaluatedOf, solidOf, recordOf, recordsOf, headOf, tableOf, roomRefusal, roomTable}
+use Rattle.walk.specs.Demand.{Every, Pairwise, recordBoxes, AllBelowZero, AllAboveZero, Undecided, Demand}
 use Rattle.walk.proofs.EndLaws.{lows-ticks, highs-ticks}
-use Rattle.walk.proofs.MarkLaws.{length-marks, mark-boxes-are, every, pairwise}
+use Rattle.walk.proofs.RecordLaws.{length-records, record-boxes-are, every, pairwise}
 
 -- ---- a state by its number
 number-inside : (s : State) → stateNumber s ≡ 1 → s ≡ Inside
@@ -88,8 +88,8 @@ module _ (ar : Arithmetic) (d : Description) (accepted : Accepted d) (D : ℕ) w
         let u = number-unsettled (stateAt ar (leaf ar d) (c .box)) e in
         record { not-settled = u; ended = ⊎-elim (λ k. inl k) (λ s. inr (cube-stops (stateAt ar (leaf ar d) (c .box)) (oneCube (c .box)) u s)) (m .why) }
 
-    fits : Fits (markOf ar (leaf ar d) c)
-    fits = good-fits (markOf ar (leaf ar d) c) (number-below (stateAt ar (leaf ar d) (c .box))) (m .good)
+    fits : Fits (recordOf ar (leaf ar d) c)
+    fits = good-fits (recordOf ar (leaf ar d) c) (number-below (stateAt ar (leaf ar d) (c .box))) (m .good)
 
   unsettled-number : (c : Cell) → Undecided ar d D c → stateNumber (stateAt ar (leaf ar d) (c .box)) ≡ 3
   unsettled-number c u = ap stateNumber (u .not-settled)
@@ -102,15 +102,15 @@ module _ (ar : Arithmetic) (d : Description) (accepted : Accepted d) (D : ℕ) w
     abbrev head : Head
     head = headOf ar (leaf ar d) D b
 
-    abbrev ms : List Mark
-    ms = marksOf ar (leaf ar d) cs
+    abbrev ms : List Record
+    ms = recordsOf ar (leaf ar d) cs
 
     pub each : All (Stopped (settled ar (leaf ar d)) longest D) cs
     each = subst (λ (k : ℕ). All (Stopped (settled ar (leaf ar d)) longest k) cs) (zero-add D)
         (stopped (settled ar (leaf ar d)) longest fair-longest D 0 b good)
 
-    all-fit : (cs : List Cell) → All (Stopped (settled ar (leaf ar d)) longest D) cs → AllFit (marksOf ar (leaf ar d) cs)
-    unfolding marksOf
+    all-fit : (cs : List Cell) → All (Stopped (settled ar (leaf ar d)) longest D) cs → AllFit (recordsOf ar (leaf ar d) cs)
+    unfolding recordsOf
     all-fit [] q = tt
     all-fit (c ∷ cs) q = (fits c (q .0), all-fit cs (q .1))
 
@@ -132,16 +132,16 @@ module _ (ar : Arithmetic) (d : Description) (accepted : Accepted d) (D : ℕ) w
         }
 
     pub read : (len : ℕ) → Told (tableBytes len head ms) head ms
-    read len = told len head ms head-fits (all-fit cs each) refl (sym (length-marks ar (leaf ar d) cs))
+    read len = told len head ms head-fits (all-fit cs each) refl (sym (length-records ar (leaf ar d) cs))
 
     -- the tick cubes that a list of the tree's boxes holds
-    covered : (x y z : ℤ) → holders x y z (markBoxes ms) ≡ cond (holdsCube x y z b) 1 0
-    covered x y z = ap (holders x y z) (mark-boxes-are ar (leaf ar d) cs) ∙ cover (settled ar (leaf ar d)) longest fair-longest x y z D 0 b good
+    covered : (x y z : ℤ) → holders x y z (recordBoxes ms) ≡ cond (holdsCube x y z b) 1 0
+    covered x y z = ap (holders x y z) (record-boxes-are ar (leaf ar d) cs) ∙ cover (settled ar (leaf ar d)) longest fair-longest x y z D 0 b good
 
     -- ---- what a table says whose reading this is
     module _ (t : List ℕ) (r : Told t head ms) where
-      holders-are : (x y z : ℤ) → holders x y z (markBoxes (marksIn t)) ≡ cond (holdsCube x y z b) 1 0
-      holders-are x y z = ap (λ (l : List Mark). holders x y z (markBoxes l)) (r .marks-are) ∙ covered x y z
+      holders-are : (x y z : ℤ) → holders x y z (recordBoxes (recordsIn t)) ≡ cond (holdsCube x y z b) 1 0
+      holders-are x y z = ap (λ (l : List Record). holders x y z (recordBoxes l)) (r .records-are) ∙ covered x y z
 
       cells-read : cellsIn t ≡ leaves (settled ar (leaf ar d)) longest D b
       cells-read = ap (λ (h : Head). h .cells) (r .head-is) ∙ cells-many
@@ -156,12 +156,12 @@ module _ (ar : Arithmetic) (d : Description) (accepted : Accepted d) (D : ℕ) w
       says = record {
         one-cell = λ x y z h. holders-are x y z ∙ rw h;
         no-cell = λ x y z h. holders-are x y z ∙ rw h;
-        inside = subst⁻¹ (Every (λ m. m .state ≡ 1 → AllBelowZero d (m .box))) (r .marks-are) (every ar (leaf ar d) _ _ below-zero cs each);
-        outside = subst⁻¹ (Every (λ m. m .state ≡ 2 → AllAboveZero d (m .box))) (r .marks-are) (every ar (leaf ar d) _ _ above-zero cs each);
-        unsettled = subst⁻¹ (λ (l : List Mark). Pairwise (λ m c. (m .state ≡ 3 → Undecided ar d D c) × (Undecided ar d D c → m .state ≡ 3)) l cs) (r .marks-are)
+        inside = subst⁻¹ (Every (λ m. m .state ≡ 1 → AllBelowZero d (m .box))) (r .records-are) (every ar (leaf ar d) _ _ below-zero cs each);
+        outside = subst⁻¹ (Every (λ m. m .state ≡ 2 → AllAboveZero d (m .box))) (r .records-are) (every ar (leaf ar d) _ _ above-zero cs each);
+        unsettled = subst⁻¹ (λ (l : List Record). Pairwise (λ m c. (m .state ≡ 3 → Undecided ar d D c) × (Undecided ar d D c → m .state ≡ 3)) l cs) (r .records-are)
             (pairwise ar (leaf ar d) _ _ (λ c m. (undecided c m, unsettled-number c)) cs each);
-        walk-order = subst⁻¹ (λ (l : List Mark). Pairwise (λ m c. m .box ≡ c .box) l cs) (r .marks-are) (pairwise ar (leaf ar d) _ _ (λ c m. refl) cs each);
-        marked = subst⁻¹ (Every (λ m. (m .state ≡ 3 → ⊥) → (m .state ≡ 1) ⊎ (m .state ≡ 2))) (r .marks-are)
+        walk-order = subst⁻¹ (λ (l : List Record). Pairwise (λ m c. m .box ≡ c .box) l cs) (r .records-are) (pairwise ar (leaf ar d) _ _ (λ c m. refl) cs each);
+        marked = subst⁻¹ (Every (λ m. (m .state ≡ 3 → ⊥) → (m .state ≡ 1) ⊎ (m .state ≡ 2))) (r .records-are)
             (every ar (leaf ar d) _ _ (λ c m. number-other (stateAt ar (leaf ar d) (c .box))) cs each);
         evaluated = omega (arith, evaluated-read, cells-read, box-count-leaves (settled ar (leaf ar d)) longest D b);
         evaluated-most = omega (
@@ -173,7 +173,7 @@ module _ (ar : Arithmetic) (d : Description) (accepted : Accepted d) (D : ℕ) w
         );
         evaluated-tree = evaluated-read;
         first = ap (λ (h : Head). h .first) (r .head-is);
-        ends = r .ends (omega (arith, length-marks ar (leaf ar d) cs, cells-many, leaves-least (settled ar (leaf ar d)) longest D b));
+        ends = r .ends (omega (arith, length-records ar (leaf ar d) cs, cells-many, leaves-least (settled ar (leaf ar d)) longest D b));
         solid = solid-read;
         rest = omega (arith, solid-read, ap (λ (h : Head). h .«open») (r .head-is), solid-most);
       }

@@ -1,7 +1,7 @@
 -- The laws of the walk. Assumes nothing.
 mod PartLaws
 mod StepLaws
-mod MarkLaws
+mod RecordLaws
 -- what is counted, what the writer answers, and what a walk returns and leaves: for this one and for others
 pub mod CountedLaws
 pub mod FilledLaws

@@ -20,27 +20,27 @@ use Rattle.gyroid.specs.Leaf.{leaf}
 use Rattle.gyroid.specs.Residual.{stateNumber}
 use Rattle.tree.specs.Box.{Box, Good, boxFrom}
 use Rattle.table.specs.declared.Head.{Head}
-use Rattle.table.specs.Table.{Mark}
+use Rattle.table.specs.Table.{Record}
 use Rattle.table.specs.Bounds.{HeadFits}
 use Rattle.table.specs.Told.{Told}
-use Rattle.walk.specs.Walk.{stateAt, cellsOf, marksOf, headOf, tableOf}
+use Rattle.walk.specs.Walk.{stateAt, cellsOf, recordsOf, headOf, tableOf}
 use Rattle.walk.specs.Walk.{entryRefusal, roomRefusal, roomTable, walkNumber, walkTable}
 use Rattle.walk.specs.Demand.{Every}
 use Rattle.walk.proofs.CallLaws.{entered}
-use Rattle.walk.proofs.MarkLaws.{every, length-marks}
+use Rattle.walk.proofs.RecordLaws.{every, length-records}
 use Rattle.walk.proofs.DemandLaws.{each, head-fits, read}
 
 -- one of document 01's three states, and a box of the tree
-pub record InTree (m : Mark) : Type 0 where
+pub record InTree (m : Record) : Type 0 where
   pub state : m .state ≤ 3
   pub good : Good (m .box)
 
 -- of the bytes t, which have so many slots: what they tell, and its sizes
-pub record Tells (slots : ℕ) (t : List ℕ) (h : Head) (ms : List Mark) : Type 0 where
+pub record Tells (slots : ℕ) (t : List ℕ) (h : Head) (ms : List Record) : Type 0 where
   pub told : Told t h ms
   pub fits : length ms + 1 ≤ slots
   pub head-fits : HeadFits h
-  pub marks : Every InTree ms
+  pub records : Every InTree ms
 
 number-most : (s : State) → stateNumber s ≤ 3
 number-most Inside = omega arith
@@ -48,12 +48,12 @@ number-most Outside = omega arith
 number-most Unsettled = omega arith
 
 -- the table behind all refusals
-room-left : (ar : Arithmetic) (g : Gyroid) (D : ℕ) (b : Box) (len : ℕ) → roomRefusal ar g D b len ≡ 0 → length (marksOf ar g (cellsOf ar g D b)) + 1 ≤ len / 32
+room-left : (ar : Arithmetic) (g : Gyroid) (D : ℕ) (b : Box) (len : ℕ) → roomRefusal ar g D b len ≡ 0 → length (recordsOf ar g (cellsOf ar g D b)) + 1 ≤ len / 32
 unfolding roomRefusal
 room-left ar g D b len e =
     omega (
       arith,
-      length-marks ar g (cellsOf ar g D b),
+      length-records ar g (cellsOf ar g D b),
       nltb→le (len / 32) (length (cellsOf ar g D b) + 1) (none-last (ltb (len / 32) (length (cellsOf ar g D b) + 1)) 12 e),
     )
 
@@ -64,8 +64,8 @@ module _ (ar : Arithmetic) (d : Description) (lo hi : List ℤ) (D : ℤ) (t : L
   abbrev depth : ℕ
   depth = natAbs D
 
-  abbrev ms : List Mark
-  ms = marksOf ar (leaf ar d) (cellsOf ar (leaf ar d) depth b)
+  abbrev ms : List Record
+  ms = recordsOf ar (leaf ar d) (cellsOf ar (leaf ar d) depth b)
 
   table-is : entryRefusal (refusal d) lo hi D ≡ 0 → roomRefusal ar (leaf ar d) depth b (length t) ≡ 0
       → walkTable ar d lo hi D t ≡ tableOf ar (leaf ar d) depth b (length t)
@@ -84,7 +84,7 @@ module _ (ar : Arithmetic) (d : Description) (lo hi : List ℤ) (D : ℤ) (t : L
             (read ar d accepted depth (h .depth-most) b (h .good) (length t));
         fits = room-left ar (leaf ar d) depth b (length t) r;
         head-fits = head-fits ar d accepted depth (h .depth-most) b (h .good);
-        marks = every ar (leaf ar d) InTree _ (λ c m. record { state = number-most (stateAt ar (leaf ar d) (c .box)); good = m .good })
+        records = every ar (leaf ar d) InTree _ (λ c m. record { state = number-most (stateAt ar (leaf ar d) (c .box)); good = m .good })
             (cellsOf ar (leaf ar d) depth b)
             (each ar d accepted depth (h .depth-most) b (h .good));
       }

@@ -23,26 +23,26 @@ use Rattle.gyroid.specs.Admitted.{Chosen, admitted}
 use Rattle.tree.specs.declared.Axis.{Axis}
 use Rattle.tree.specs.Box.{Box, boxFrom, low, high, lows, highs, oneCube, volume, holdsCube, holders}
 use Rattle.tree.specs.Tree.{Cell}
-use Rattle.table.specs.Table.{Mark}
-use Rattle.table.specs.Read.{firstIn, cellsIn, evaluatedIn, solidIn, openIn, marksIn, chainEnd}
+use Rattle.table.specs.Table.{Record}
+use Rattle.table.specs.Read.{firstIn, cellsIn, evaluatedIn, solidIn, openIn, recordsIn, chainEnd}
 use Rattle.walk.specs.Walk.{stateAt, cellsOf, evaluatedOf, solidOf}
 
 -- every cell of the table has a property
-abbrev pub Every : (Mark → Type 0) → List Mark → Type 0
+abbrev pub Every : (Record → Type 0) → List Record → Type 0
 Every P [] = Unit {0}
 Every P (m ∷ ms) = P m × Every P ms
 
 -- the cells of the table and those of the tree are as many, and have a property one by one
-abbrev pub Pairwise : (Mark → Cell → Type 0) → List Mark → List Cell → Type 0
+abbrev pub Pairwise : (Record → Cell → Type 0) → List Record → List Cell → Type 0
 Pairwise P [] [] = Unit {0}
 Pairwise P [] (c ∷ cs) = ⊥
 Pairwise P (m ∷ ms) [] = ⊥
 Pairwise P (m ∷ ms) (c ∷ cs) = P m c × Pairwise P ms cs
 
 -- the boxes of the table's cells
-unfoldable pub markBoxes : List Mark → List Box
-markBoxes [] = []
-markBoxes (m ∷ ms) = m .box ∷ markBoxes ms
+unfoldable pub recordBoxes : List Record → List Box
+recordBoxes [] = []
+recordBoxes (m ∷ ms) = m .box ∷ recordBoxes ms
 
 module _ (d : Description) where
   -- "its admitted residuals are those with its own centre and half-widths", at a rational point of a cell, "faces included"
@@ -78,19 +78,19 @@ module _ (ar : Arithmetic) where
     -- of the box b, the depth D and the bytes t
     pub record Demand (b : Box) (D : ℕ) (t : List ℕ) : Type 0 where
       -- "Each tick cube of the box is in exactly one cell,
-      pub one-cell : (x y z : ℤ) → holdsCube x y z b ≡ true → holders x y z (markBoxes (marksIn t)) ≡ 1
+      pub one-cell : (x y z : ℤ) → holdsCube x y z b ≡ true → holders x y z (recordBoxes (recordsIn t)) ≡ 1
       -- and no cube outside the box is in any."
-      pub no-cell : (x y z : ℤ) → holdsCube x y z b ≡ false → holders x y z (markBoxes (marksIn t)) ≡ 0
+      pub no-cell : (x y z : ℤ) → holdsCube x y z b ≡ false → holders x y z (recordBoxes (recordsIn t)) ≡ 0
       -- "At every rational point of a cell marked inside, all of the cell's admitted residuals are below zero."
-      pub inside : Every (λ m. m .state ≡ 1 → AllBelowZero d (m .box)) (marksIn t)
+      pub inside : Every (λ m. m .state ≡ 1 → AllBelowZero d (m .box)) (recordsIn t)
       -- "At every rational point of one marked outside, all are above zero."
-      pub outside : Every (λ m. m .state ≡ 2 → AllAboveZero d (m .box)) (marksIn t)
+      pub outside : Every (λ m. m .state ≡ 2 → AllAboveZero d (m .box)) (recordsIn t)
       -- "A cell is unsettled exactly when demand 2's residual doesn't settle its box and it stands at depth D or is one tick cube."
-      pub unsettled : Pairwise (λ m c. (m .state ≡ 3 → Undecided D c) × (Undecided D c → m .state ≡ 3)) (marksIn t) (cellsOf ar (leaf ar d) D b)
+      pub unsettled : Pairwise (λ m c. (m .state ≡ 3 → Undecided D c) × (Undecided D c → m .state ≡ 3)) (recordsIn t) (cellsOf ar (leaf ar d) D b)
       -- "The table's cells are the tree's, in walk order,
-      pub walk-order : Pairwise (λ m c. m .box ≡ c .box) (marksIn t) (cellsOf ar (leaf ar d) D b)
+      pub walk-order : Pairwise (λ m c. m .box ≡ c .box) (recordsIn t) (cellsOf ar (leaf ar d) D b)
       -- and one that isn't unsettled is marked inside or outside."
-      pub marked : Every (λ m. (m .state ≡ 3 → ⊥) → (m .state ≡ 1) ⊎ (m .state ≡ 2)) (marksIn t)
+      pub marked : Every (λ m. (m .state ≡ 3 → ⊥) → (m .state ≡ 1) ⊎ (m .state ≡ 2)) (recordsIn t)
       -- "Evaluated = 2 × cells − 1, at most 2^(D+1) − 1", and it is the number of boxes in the tree
       pub evaluated : evaluatedIn t + 1 ≡ 2 * cellsIn t
       pub evaluated-most : evaluatedIn t + 1 ≤ 2 ^ suc D

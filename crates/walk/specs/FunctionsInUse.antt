@@ -8,7 +8,7 @@ use Rattle.gyroid.specs.declared.State.{State}
 use Rattle.tree.specs.Box.{Box}
 use Rattle.tree.specs.Tree.{Cell}
 use Rattle.table.specs.declared.Head.{Head}
-use Rattle.table.specs.Table.{Mark}
+use Rattle.table.specs.Table.{Record}
 use Rattle.walk.specs.Walk
 
 abbrev pub stateAt : Gyroid → Box → State
@@ -29,8 +29,8 @@ evaluatedOf = Walk.evaluatedOf inUse
 abbrev pub solidOf : Gyroid → ℕ → Box → ℕ
 solidOf = Walk.solidOf inUse
 
-abbrev pub marksOf : Gyroid → List Cell → List Mark
-marksOf = Walk.marksOf inUse
+abbrev pub recordsOf : Gyroid → List Cell → List Record
+recordsOf = Walk.recordsOf inUse
 
 abbrev pub headOf : Gyroid → ℕ → Box → Head
 headOf = Walk.headOf inUse

@@ -22,7 +22,7 @@ use Rattle.tree.specs.Box.{Box, boxFrom, lows, highs, longest, volume}
 use Rattle.tree.specs.Tree as tree
 use Rattle.tree.specs.Tree.{Cell, volumeOf}
 use Rattle.table.specs.declared.Head.{Head}
-use Rattle.table.specs.Table.{Mark, tableBytes}
+use Rattle.table.specs.Table.{Record, tableBytes}
 
 -- "A box is settled when the `box_state` of demand 2, over its ends, gives inside or outside"
 abbrev pub isSettled : State → Bool
@@ -62,12 +62,12 @@ module _ (ar : Arithmetic) where
   openOf g D b = volume b - solidOf g D b
 
   -- the cells as the table has them
-  abbrev pub markOf : Gyroid → Cell → Mark
-  markOf g c = record { state = stateNumber (stateAt g (c .box)); box = c .box }
+  abbrev pub recordOf : Gyroid → Cell → Record
+  recordOf g c = record { state = stateNumber (stateAt g (c .box)); box = c .box }
 
-  unfoldable pub marksOf : Gyroid → List Cell → List Mark
-  marksOf g [] = []
-  marksOf g (c ∷ cs) = markOf g c ∷ marksOf g cs
+  unfoldable pub recordsOf : Gyroid → List Cell → List Record
+  recordsOf g [] = []
+  recordsOf g (c ∷ cs) = recordOf g c ∷ recordsOf g cs
 
   -- slot 0: "first cell (u32, 1), cells (u32), evaluated (u32), solid volume (u64), open volume (u64)"
   abbrev pub headOf : Gyroid → ℕ → Box → Head
@@ -75,7 +75,7 @@ module _ (ar : Arithmetic) where
       record { first = 1; cells = length (cellsOf g D b); evaluated = evaluatedOf g D b; solid = solidOf g D b; «open» = openOf g D b }
 
   unfoldable pub tableOf : Gyroid → ℕ → Box → ℕ → List ℕ
-  tableOf g D b len = tableBytes len (headOf g D b) (marksOf g (cellsOf g D b))
+  tableOf g D b len = tableBytes len (headOf g D b) (recordsOf g (cellsOf g D b))
 
 -- ---- the refusals: "description and whole-number box" is one row; then the description's; then the walk's, "11: a span below 1;
 -- 12: depth below 0 or above 24; 13: cells + 1 exceeds length div 32"

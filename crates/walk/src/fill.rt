@@ -6,7 +6,7 @@ ghost use lib.ListN.{length};
 ghost use Rattle.table.specs.Placed.{placed};
 ghost use Rattle.tree.specs.Box.{boxOf, longest};
 ghost use Rattle.tree.specs.Tree.{leaves, cells};
-ghost use Rattle.walk.specs.FunctionsInUse.{settled, marksOf};
+ghost use Rattle.walk.specs.FunctionsInUse.{settled, recordsOf};
 ghost use Rattle.walk.specs.Counted.{filledOf};
 ghost use Rattle.walk.specs.Carried.{Stands, stepOf};
 use crate::Counted;
@@ -49,7 +49,7 @@ pub fn fill(
     ensures { λ r. ⌜ r ≡ filledOf g depth (boxOf (n .b)) fresh (length (now (t .entry)) / 32) ⌝ }
     ensures { λ _. ⌜ (fresh + leaves (settled g) longest depth (boxOf (n .b)) ≤ length (now (t .entry)) / 32 + 1 → (k : ℕ)
         → now (t .exit) ≡ placed (now (t .entry)) slot fresh (cond last after (fresh + leaves (settled g) longest depth (boxOf (n .b)) - 1))
-        (marksOf g (cells (settled g) longest depth k (boxOf (n .b))))) ⌝ }
+        (recordsOf g (cells (settled g) longest depth k (boxOf (n .b))))) ⌝ }
 {
     match step {
         Step::Cell(s) => {

@@ -9,7 +9,7 @@ use Rattle.tree.specs.Tree.{leaves}
 use Rattle.tree.proofs.CountLaws.{leaves-small}
 use Rattle.table.specs.Placed.{placed}
 use Rattle.table.proofs.Written.{zeroed}
-use Rattle.walk.specs.FunctionsInUse.{settled, cellsOf, marksOf}
+use Rattle.walk.specs.FunctionsInUse.{settled, cellsOf, recordsOf}
 use Rattle.walk.specs.Counted.{filledOf}
 use Rattle.walk.proofs.CountedLaws.{counted-cells, counted-most}
 use Rattle.walk.proofs.FilledLaws.{HasRoom, done-tells, full-tells}
@@ -131,7 +131,7 @@ returns-2 c =
     let a = start r .args in
     let same = ap (λ (x : Box). leaves (settled (a .g)) longest (a .depth) x) (root-is r) in
     let cells-put = f .fill .ensures .1 (omega (arith, room k .fits, same)) 0
-    ∙ ap (λ (x : Box). placed (a .table .now) 1 2 0 (marksOf (a .g) (cellsOf (a .g) (a .depth) x))) (root-is r) in
+    ∙ ap (λ (x : Box). placed (a .table .now) 1 2 0 (recordsOf (a .g) (cellsOf (a .g) (a .depth) x))) (root-is r) in
     room-done (a .g) (a .depth) (boxOf (a .b)) (a .table .now) (room k) cells-put (z .zero2 .ensures) (h .before .head .ensures) (h .put-head .ensures)
 
 pub run-spec : {M : Type 1} → statement M

@@ -11,13 +11,13 @@ use Rattle.gyroid.specs.declared.Gyroid.{Gyroid}
 use Rattle.tree.specs.Box.{Box, boxOf, longest, lower, upper}
 use Rattle.tree.specs.Tree.{leaves, cells}
 use Rattle.tree.proofs.CountLaws.{leaves-least}
-use Rattle.table.specs.Table.{Mark}
+use Rattle.table.specs.Table.{Record}
 use Rattle.table.proofs.BoundLaws.{within-ticks}
 use Rattle.table.proofs.PlacedLaws.{placed-cell, placed-halves}
 use Rattle.grade.specs.InUse.{inUse}
-use Rattle.walk.specs.FunctionsInUse.{settled, marksOf}
+use Rattle.walk.specs.FunctionsInUse.{settled, recordsOf}
 use Rattle.walk.proofs.StepLaws.{AtCell, AtHalves, at-cell, at-halves}
-use Rattle.walk.proofs.MarkLaws.{marks-cell, marks-halves, marks-leaves}
+use Rattle.walk.proofs.RecordLaws.{records-cell, records-halves, records-leaves}
 use Rattle.walk.proofs.PartLaws.{lower-ready, upper-ready}
 use Rattle.walk.proofs.CountedLaws.{counted-cells, counted-cell, counted-halves, counted-adds}
 use Rattle.walk.proofs.FilledLaws.{HasRoom, is-done, is-full, done-tells, full-tells}
@@ -339,8 +339,8 @@ fill-same-length-3 : (t : ℕ) → fill-lts.Need-same-length-3 (claims t) (fill-
 fill-same-length-3 t c = c .before .before .before .put-cell .kept .0
 
 -- the cells of a box as the table has them
-abbrev marks : Gyroid → ℕ → ℕ → Box → List Mark
-marks g d k b = marksOf g (cells (settled g) longest d k b)
+abbrev records : Gyroid → ℕ → ℕ → Box → List Record
+records g d k b = recordsOf g (cells (settled g) longest d k b)
 
 fill-returns-4 : (t : ℕ) → fill-lts.Need-returns-4 (claims t) (fill-at t) fill.Post
 fill-returns-4 t c =
@@ -352,7 +352,7 @@ fill-returns-4 t c =
     let one = at .tree .leaves1 in (
       is-done _ _ _ _ _ (omega (arith, one, e .if1 .left)) (c .cell .ensures ∙ sym (counted-cell _ _ _ _ at)),
       λ q i. placed-cell (a .t .now) (a .slot) (a .fresh) (a .last) (a .after) (p .put-cell .ensures) (p .before .before .named .ensures) one
-          (marks-cell _ _ i _ _ at (p .before .number .ensures)),
+          (records-cell _ _ i _ _ at (p .before .number .ensures)),
     )
 
 -- ---- the counts of both halves and their bytes
@@ -379,10 +379,10 @@ fill-returns-5 t c =
     let k = a .depth - 1 in (
       is-done _ _ _ _ _ (omega (arith, hd .fits, sum, first .fill .kept .1 .1 .1 .1 .0, n, low-least t l))
           (c .joined .ensures ∙ counted-halves _ _ _ _ h (low-is t l) (high-is t u) (ld .counted) (hd .counted)),
-      λ q i. placed-halves (a .t .now) (a .slot) (a .fresh) (a .last) (a .after) (marks (a .g) k (suc i) low) (marks (a .g) k (suc i) high)
-          (marks-leaves inUse (a .g) k (suc i) low) (marks-leaves inUse (a .g) k (suc i) high) (low-least t l)
+      λ q i. placed-halves (a .t .now) (a .slot) (a .fresh) (a .last) (a .after) (records (a .g) k (suc i) low) (records (a .g) k (suc i) high)
+          (records-leaves inUse (a .g) k (suc i) low) (records-leaves inUse (a .g) k (suc i) high) (low-least t l)
           (leaves-least (settled (a .g)) longest k high) sum (ap (λ (m : ℕ). a .fresh + m - 1) n)
-          (marks-halves _ _ i _ low high _ h (low-is t l) (high-is t u)) (first .fill .ensures .1 (ld .fits) (suc i))
+          (records-halves _ _ i _ low high _ h (low-is t l) (high-is t u)) (first .fill .ensures .1 (ld .fits) (suc i))
           (second .fill2 .ensures .1 (hd .fits) (suc i)),
     )
 
