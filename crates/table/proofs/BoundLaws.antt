@@ -31,9 +31,10 @@ low-fits {l} {h} p q r = record { least = omega zarith; most = omega zarith }
 high-fits : {l h : ℤ} → l <ℤ h → negsuc 1048575 ≤ℤ l → h ≤ℤ pos 1048576 → FitsI32 h
 high-fits {l} {h} p q r = record { least = omega zarith; most = omega zarith }
 
-pub good-fits : (m : Record) → m .state < 4294967296 → Good (m .box) → Fits m
-good-fits m h g = record {
+pub good-fits : (m : Record) → m .state < 256 → m .depth < 256 → Good (m .box) → Fits m
+good-fits m h k g = record {
   state = h;
+  depth = k;
   lx = low-fits (g .spans X) (g .least X) (g .most X);
   ly = low-fits (g .spans Y) (g .least Y) (g .most Y);
   lz = low-fits (g .spans Z) (g .least Z) (g .most Z);

@@ -1,15 +1,15 @@
 -- The numbers of a slot that stands at the front of a list. Assumes nothing.
-use mathlib.Core.Path.{_≡_, refl, sym, ap, _∙_}
+use mathlib.Core.Path.{_≡_, refl, sym, ap, _∙_, subst⁻¹}
 use mathlib.Core.List.{List, _++_}
 use Prim.Native.Nat.{ℕ, _+_, _*_, _/_, _%_, _<_}
 use native.Mathlib.Omega.{arith}
-use native.Mathlib.Nat.{add-assoc, add-zero}
+use native.Mathlib.Nat.{add-assoc, mod-eq-of-lt}
 use lib.IntN.{ℤ}
-use lib.ListN.{drop, getD}
+use lib.ListN.{drop}
 use lib.Seq.{getD-drop}
 use Rattle.table.specs.declared.Head.{Head}
-use Rattle.table.specs.Table.{Record, word4, word8, bits, headBytes, cellBytes}
-use Rattle.table.specs.Read.{u32At, i32At, twosComplement, headIn, nextIn, recordIn}
+use Rattle.table.specs.Table.{Record, word4, word8, bits, headBytes, stateWord, cellBytes}
+use Rattle.table.specs.Read.{u8At, u32At, twosComplement, headIn, nextIn, coordinateIn, recordIn, TwoZeros}
 use Rattle.table.specs.Bounds.{HeadFits, FitsI32, Fits}
 use Rattle.table.proofs.Words.{digits, two-words, twos-complement-bits, bits-below}
 
@@ -30,27 +30,15 @@ coordinate : (z : ℤ) {w : ℕ} → FitsI32 z → w ≡ bits z % 256 + bits z /
 coordinate z h e = ap twosComplement (e ∙ digits (bits z) (bits-below z h)) ∙ twos-complement-bits z h
 
 module _ (next : ℕ) (m : Record) (r : List ℕ) where
-  abbrev cell : List ℕ
-  cell = cellBytes next m ++ r
+  front-next : next < 4294967296 → nextIn (cellBytes next m ++ r) 0 ≡ next
+  unfolding cellBytes stateWord word4
+  front-next h = digits next h
 
-  cell-next : next < 4294967296 → u32At cell 0 ≡ next
-  unfolding cellBytes word4
-  cell-next h = digits next h
-
-  cell-record : Fits m → record {
-    state = u32At cell 4;
-    box = record {
-      lx = i32At cell 8;
-      ly = i32At cell 12;
-      lz = i32At cell 16;
-      hx = i32At cell 20;
-      hy = i32At cell 24;
-      hz = i32At cell 28;
-    };
-  } ≡ m
-  unfolding cellBytes word4
-  cell-record h = λ i. record {
-    state = digits (m .state) (h .state) i;
+  front-record : Fits m → recordIn (cellBytes next m ++ r) 0 ≡ m
+  unfolding recordIn cellBytes stateWord word4
+  front-record h = λ i. record {
+    state = mod-eq-of-lt (h .state) i;
+    depth = mod-eq-of-lt (h .depth) i;
     box = record {
       lx = coordinate (m .box .lx) (h .lx) refl i;
       ly = coordinate (m .box .ly) (h .ly) refl i;
@@ -61,43 +49,67 @@ module _ (next : ℕ) (m : Record) (r : List ℕ) where
     };
   }
 
--- ---- the same slot further on in a list
-word-later : (t : List ℕ) (n k : ℕ) → u32At t (n + k) ≡ u32At (drop n t) k
-word-later t n k = λ i. byte0 i + byte1 i * 256 + byte2 i * 65536 + byte3 i * 16777216
-  where
-    byte0 : getD t (n + k) 0 ≡ getD (drop n t) k 0
-    byte0 = sym (getD-drop n t k 0)
+  front-zeros : TwoZeros (cellBytes next m ++ r) 0
+  unfolding cellBytes stateWord word4
+  front-zeros = record { first = refl; second = refl }
 
-    byte1 : getD t (n + k + 1) 0 ≡ getD (drop n t) (k + 1) 0
-    byte1 = ap (λ (j : ℕ). getD t j 0) (add-assoc n k 1) ∙ sym (getD-drop n t (k + 1) 0)
+-- ---- a slot further on in a list, as the front of the rest
+byte-later : (t : List ℕ) (n k : ℕ) {i : ℕ} → i ≡ n + k → u8At t i ≡ u8At (drop n t) k
+byte-later t n k e = ap (u8At t) e ∙ sym (getD-drop n t k 0)
 
-    byte2 : getD t (n + k + 2) 0 ≡ getD (drop n t) (k + 2) 0
-    byte2 = ap (λ (j : ℕ). getD t j 0) (add-assoc n k 2) ∙ sym (getD-drop n t (k + 2) 0)
+word-later : (t : List ℕ) (n k : ℕ) {i : ℕ} → i ≡ n + k → u32At t i ≡ u32At (drop n t) k
+word-later t n k {i} e =
+    let byte0 = byte-later t n k e in
+    let byte1 = byte-later t n (k + 1) (ap (λ (j : ℕ). j + 1) e ∙ add-assoc n k 1) in
+    let byte2 = byte-later t n (k + 2) (ap (λ (j : ℕ). j + 2) e ∙ add-assoc n k 2) in
+    let byte3 = byte-later t n (k + 3) (ap (λ (j : ℕ). j + 3) e ∙ add-assoc n k 3) in
+    λ j. byte0 j + byte1 j * 256 + byte2 j * 65536 + byte3 j * 16777216
 
-    byte3 : getD t (n + k + 3) 0 ≡ getD (drop n t) (k + 3) 0
-    byte3 = ap (λ (j : ℕ). getD t j 0) (add-assoc n k 3) ∙ sym (getD-drop n t (k + 3) 0)
+module _ (t : List ℕ) (slot : ℕ) where
+  abbrev rest : List ℕ
+  rest = drop (32 * slot) t
 
-word-at : (t f : List ℕ) (n k : ℕ) → drop n t ≡ f → u32At t (n + k) ≡ u32At f k
-word-at t f n k e = word-later t n k ∙ ap (λ (x : List ℕ). u32At x k) e
+  next-later : nextIn t slot ≡ nextIn rest 0
+  next-later = word-later t (32 * slot) _ (omega arith)
+
+  coordinate-later : (i : ℕ) → coordinateIn t slot i ≡ coordinateIn rest 0 i
+  coordinate-later i = ap twosComplement (word-later t (32 * slot) _ (omega arith))
+
+  state-later : recordIn t slot .state ≡ recordIn rest 0 .state
+  unfolding recordIn
+  state-later = byte-later t (32 * slot) _ (omega arith)
+
+  depth-later : recordIn t slot .depth ≡ recordIn rest 0 .depth
+  unfolding recordIn
+  depth-later = byte-later t (32 * slot) _ (omega arith)
+
+  record-later : recordIn t slot ≡ recordIn rest 0
+  unfolding recordIn
+  record-later = λ i. record {
+    state = state-later i;
+    depth = depth-later i;
+    box = record {
+      lx = coordinate-later 0 i;
+      ly = coordinate-later 1 i;
+      lz = coordinate-later 2 i;
+      hx = coordinate-later 3 i;
+      hy = coordinate-later 4 i;
+      hz = coordinate-later 5 i;
+    };
+  }
+
+  zeros-later : TwoZeros rest 0 → TwoZeros t slot
+  zeros-later z = record {
+    first = byte-later t (32 * slot) _ (omega arith) ∙ z .first;
+    second = byte-later t (32 * slot) _ (omega arith) ∙ z .second;
+  }
 
 module _ (t r : List ℕ) (slot next : ℕ) (m : Record) (e : drop (32 * slot) t ≡ cellBytes next m ++ r) where
   pub next-at : next < 4294967296 → nextIn t slot ≡ next
-  next-at h =
-      ap (λ (k : ℕ). u32At t k) (sym (add-zero (32 * slot))) ∙ word-at t (cellBytes next m ++ r) (32 * slot) 0 e ∙ cell-next next m r h
+  next-at h = next-later t slot ∙ ap (λ (l : List ℕ). nextIn l 0) e ∙ front-next next m r h
 
   pub record-at : Fits m → recordIn t slot ≡ m
-  unfolding recordIn
-  record-at h =
-      let f : List ℕ = cellBytes next m ++ r in
-      (λ i. record {
-        state = word-at t f (32 * slot) 4 e i;
-        box = record {
-          lx = twosComplement (word-at t f (32 * slot) 8 e i);
-          ly = twosComplement (word-at t f (32 * slot) 12 e i);
-          lz = twosComplement (word-at t f (32 * slot) 16 e i);
-          hx = twosComplement (word-at t f (32 * slot) 20 e i);
-          hy = twosComplement (word-at t f (32 * slot) 24 e i);
-          hz = twosComplement (word-at t f (32 * slot) 28 e i);
-        };
-      })
-      ∙ cell-record next m r h
+  record-at h = record-later t slot ∙ ap (λ (l : List ℕ). recordIn l 0) e ∙ front-record next m r h
+
+  pub zeros-at : TwoZeros t slot
+  zeros-at = zeros-later t slot (subst⁻¹ (λ (l : List ℕ). TwoZeros l 0) e (front-zeros next m r))

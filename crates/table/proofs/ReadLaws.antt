@@ -1,4 +1,4 @@
--- What is read of a table, step by step: its chain, a cell's fields, zeros past its end, the size of an i32. Assumes nothing.
+-- What is read of a table, step by step: its chain, a cell's box, zeros past its end, the size of a coordinate. Assumes nothing.
 use mathlib.Core.Path.{_≡_, refl, ap}
 use mathlib.Core.Bool.{Bool, true, false, cond}
 use mathlib.Core.List.{List, [], _∷_}
@@ -7,9 +7,9 @@ use native.Mathlib.Omega.{arith}
 use borrow.Author.Tests.{ltb-true, ltb-false}
 use lib.Dec.{ltb}
 use lib.IntN.{pos, negsuc}
-use lib.ListN.{length, getD, List·getD-eq-default}
+use lib.ListN.{length, List·getD-eq-default}
 use Rattle.exact.specs.Within.{Within}
-use Rattle.table.specs.Read.{u32At, i32At, twosComplement, nextIn, recordIn, chain}
+use Rattle.table.specs.Read.{u8At, u32At, twosComplement, nextIn, coordinateIn, recordIn, chain}
 
 -- ---- the chain
 pub chain-end : (n : ℕ) (t : List ℕ) (slot : ℕ) → n ≤ 0 → chain n t slot ≡ []
@@ -27,34 +27,42 @@ unfolding chain
 length-chain zero t slot = refl
 length-chain (suc n) t slot = ap suc (length-chain n t (nextIn t slot))
 
--- ---- a cell's fields, in the order of its bytes
-pub record-is : (t : List ℕ) (slot : ℕ) → recordIn t slot ≡ record {
-  state = u32At t (32 * slot + 4);
-  box = record {
-    lx = i32At t (32 * slot + 8);
-    ly = i32At t (32 * slot + 12);
-    lz = i32At t (32 * slot + 16);
-    hx = i32At t (32 * slot + 20);
-    hy = i32At t (32 * slot + 24);
-    hz = i32At t (32 * slot + 28);
-  };
+-- ---- a cell's box, by its coordinates
+pub box-is : (t : List ℕ) (slot : ℕ) → recordIn t slot .box ≡ record {
+  lx = coordinateIn t slot 0;
+  ly = coordinateIn t slot 1;
+  lz = coordinateIn t slot 2;
+  hx = coordinateIn t slot 3;
+  hy = coordinateIn t slot 4;
+  hz = coordinateIn t slot 5;
 }
 unfolding recordIn
-record-is t slot = refl
+box-is t slot = refl
 
--- ---- past the end
-pub u32-past : (t : List ℕ) (i : ℕ) → length t ≤ i → u32At t i ≡ 0
-u32-past t i h =
-    let a : getD t i 0 ≡ 0 = List·getD-eq-default t 0 h in
-    let b : getD t (i + 1) 0 ≡ 0 = List·getD-eq-default t 0 (omega arith) in
-    let c : getD t (i + 2) 0 ≡ 0 = List·getD-eq-default t 0 (omega arith) in
-    let d : getD t (i + 3) 0 ≡ 0 = List·getD-eq-default t 0 (omega arith) in
+-- ---- a slot past the end
+byte-past : (t : List ℕ) {i : ℕ} → length t ≤ i → u8At t i ≡ 0
+byte-past t h = List·getD-eq-default t 0 h
+
+word-past : (t : List ℕ) {i : ℕ} → length t ≤ i → u32At t i ≡ 0
+word-past t {i} h =
+    let a = byte-past t h in
+    let b : u8At t (i + 1) ≡ 0 = byte-past t (omega arith) in
+    let c : u8At t (i + 2) ≡ 0 = byte-past t (omega arith) in
+    let d : u8At t (i + 3) ≡ 0 = byte-past t (omega arith) in
     omega arith
 
-pub i32-past : (t : List ℕ) (i : ℕ) → length t ≤ i → i32At t i ≡ pos 0
-i32-past t i h = ap twosComplement (u32-past t i h)
+module _ (t : List ℕ) (slot : ℕ) (past : length t ≤ 32 * slot) where
+  pub next-past : nextIn t slot ≡ 0
+  next-past = word-past t past
 
--- ---- an i32's size
+  pub state-past : recordIn t slot .state ≡ 0
+  unfolding recordIn
+  state-past = byte-past t (omega arith)
+
+  pub coordinate-past : (i : ℕ) → coordinateIn t slot i ≡ pos 0
+  coordinate-past i = ap twosComplement (word-past t (omega arith))
+
+-- ---- a coordinate's size
 twos-complement-within : (w : ℕ) → Within 2147483648 (twosComplement w)
 twos-complement-within w = go (ltb w 2147483648) refl
   where
@@ -62,5 +70,5 @@ twos-complement-within w = go (ltb w 2147483648) refl
     go true e = record { abs = omega (arith, ltb-true w 2147483648 e) }
     go false e = record { abs = omega (arith, ltb-false w 2147483648 e) }
 
-pub i32-within : (t : List ℕ) (i : ℕ) → Within 2147483648 (i32At t i)
-i32-within t i = twos-complement-within (u32At t i)
+pub coordinate-within : (t : List ℕ) (slot i : ℕ) → Within 2147483648 (coordinateIn t slot i)
+coordinate-within t slot i = twos-complement-within (u32At t _)

@@ -2,15 +2,18 @@
 use mathlib.Core.Path.{_≡_, refl, sym, ap, _∙_}
 use mathlib.Core.List.{List, _++_}
 use Prim.Native.Nat.{ℕ, _+_, _/_, _%_}
+use native.Mathlib.Omega.{arith}
 use lib.ListN.{length-append, replicate}
 use lib.Seq.{sets}
 use Rattle.tree.specs.Box.{Box, unshifted, boxOf}
 use Rattle.tree.specs.declared.ShiftedBox.{ShiftedBox}
 use Rattle.tree.proofs.Coordinates.{coordinates}
 use Rattle.table.specs.declared.Head.{Head}
-use Rattle.table.specs.Table.{word4, word8, bits, headBytes, cellBytes}
+use Rattle.table.specs.Table.{word4, word8, bits, headBytes, stateWord, cellBytes}
+use Rattle.table.specs.Read.{stateOffset, coordinatesOffset}
 use Rattle.table.proofs.Stores.{sets-then}
 use Rattle.table.proofs.Words.{length-word4, length-word8}
+use Rattle.table.proofs.Slots.{length-state}
 
 -- a u64
 pub word8-stored : (l : List ℕ) (at x : ℕ) {m r : List ℕ} → m ≡ sets l at (word4 (x % 4294967296)) → r ≡ sets m (at + 4) (word4 (x / 4294967296))
@@ -54,16 +57,17 @@ corner-stored l at x y z {wx} {wy} {wz} ex ey ez e f g =
     ∙ (λ k. sets l at (word4 (ex k) ++ word4 (ey k) ++ word4 (ez k)))
 
 -- the slot of a cell
-pub cell-stored : (l : List ℕ) (at next state : ℕ) (b : ShiftedBox) {m n p r : List ℕ} → m ≡ sets l at (word4 next) → n ≡ sets m (at + 4) (word4 state)
-    → p ≡ sets n (at + 8) (corner (b .lx) (b .ly) (b .lz)) → r ≡ sets p (at + 20) (corner (b .hx) (b .hy) (b .hz))
-    → r ≡ sets l at (cellBytes next (record { state = state; box = boxOf b }))
+pub cell-stored : (l : List ℕ) (at next state depth : ℕ) (b : ShiftedBox) {j k : ℕ} {m n p r : List ℕ} → m ≡ sets l at (word4 next)
+    → n ≡ sets m (at + stateOffset) (stateWord state depth) → p ≡ sets n j (corner (b .lx) (b .ly) (b .lz)) → r ≡ sets p k (corner (b .hx) (b .hy) (b .hz))
+    → j ≡ at + coordinatesOffset → k ≡ at + coordinatesOffset + 12
+    → r ≡ sets l at (cellBytes next (record { state = state; depth = depth; box = boxOf b }))
 unfolding cellBytes
-cell-stored l at next state b e f g h =
+cell-stored l at next state depth b e f g h ej ek =
     let lows : List ℕ = corner (b .lx) (b .ly) (b .lz) in
     let highs : List ℕ = corner (b .hx) (b .hy) (b .hz) in
-    sets-then l at (word4 next ++ word4 state ++ lows) highs
-    (sets-then l at (word4 next ++ word4 state) lows
-    (sets-then l at (word4 next) (word4 state) e f (simp length-word4)) g
-    (simp (length-append, length-word4))) h
-    (simp (length-append, length-word4))
-    ∙ ap (λ (c : Box). sets l at (cellBytes next (record { state = state; box = c }))) (sym (coordinates b))
+    sets-then l at (word4 next ++ stateWord state depth ++ lows) highs
+    (sets-then l at (word4 next ++ stateWord state depth) lows
+    (sets-then l at (word4 next) (stateWord state depth) e f (simp length-word4)) g
+    (ej ∙ simp (length-append, length-word4, length-state))) h
+    (ek ∙ simp (length-append, length-word4, length-state) (omega arith))
+    ∙ ap (λ (c : Box). sets l at (cellBytes next (record { state = state; depth = depth; box = c }))) (sym (coordinates b))

@@ -1,5 +1,6 @@
 -- Words of four and eight bytes: their lengths, a number from its bytes, a whole number from its 32 bits. Assumes nothing.
 use mathlib.Core.Path.{_≡_, refl, sym, ap, _∙_}
+use mathlib.Core.List.{[], _∷_}
 use Prim.Native.Nat.{ℕ, suc, _+_, _-_, _*_, _/_, _%_, _≤_, _<_}
 use native.Mathlib.Omega.{arith}
 use native.Mathlib.Nat.{div-div-eq-div-mul, div-add-mod', mod-eq-of-lt}
@@ -10,7 +11,7 @@ use lib.ListN.{length, length-append}
 use Rattle.exact.proofs.Choice.{choose}
 use Rattle.exact.proofs.IntegerOrder.{zarith}
 use Rattle.tree.specs.Box.{unshifted}
-use Rattle.table.specs.Table.{word4, word8, bits}
+use Rattle.table.specs.Table.{word4, word8, bits, stateWord}
 use Rattle.table.specs.Read.{twosComplement}
 use Rattle.table.specs.Bounds.{FitsI32}
 
@@ -65,3 +66,17 @@ twos-complement-bits (negsuc n) h =
 pub bits-below : (z : ℤ) → FitsI32 z → bits z < 4294967296
 bits-below (pos n) h = omega (zarith, h .most)
 bits-below (negsuc n) h = omega arith
+
+-- ---- the state word as a number of 32 bits
+two-bytes : (s d : ℕ) → s < 256 → d < 256 → word4 (s + 256 * d) ≡ s ∷ d ∷ 0 ∷ 0 ∷ []
+unfolding word4
+two-bytes s d h k =
+    let first : (s + 256 * d) % 256 ≡ s = omega arith in
+    let second : (s + 256 * d) / 256 ≡ d = omega arith in
+    let third : (s + 256 * d) / 65536 ≡ 0 = omega arith in
+    let fourth : (s + 256 * d) / 16777216 ≡ 0 = omega arith in
+    λ i. first i ∷ (ap (λ (n : ℕ). n % 256) second ∙ mod-eq-of-lt k) i ∷ third i % 256 ∷ fourth i % 256 ∷ []
+
+pub state-word : (state depth : ℕ) → word4 (state % 256 + 256 * (depth % 256)) ≡ stateWord state depth
+unfolding stateWord
+state-word state depth = two-bytes (state % 256) (depth % 256) (omega arith) (omega arith)

@@ -29,9 +29,10 @@ pub record FitsI32 (z : ℤ) : Type 0 where
   pub least : negsuc 2147483647 ≤ℤ z
   pub most : z ≤ℤ pos 2147483647
 
--- a cell whose state is a u32 and whose coordinates are i32
+-- a cell's record: two bytes and six i32
 pub record Fits (m : Record) : Type 0 where
-  pub state : m .state < 4294967296
+  pub state : m .state < 256
+  pub depth : m .depth < 256
   pub lx : FitsI32 (m .box .lx)
   pub ly : FitsI32 (m .box .ly)
   pub lz : FitsI32 (m .box .lz)
@@ -39,7 +40,7 @@ pub record Fits (m : Record) : Type 0 where
   pub hy : FitsI32 (m .box .hy)
   pub hz : FitsI32 (m .box .hz)
 
--- so are all cells of a list
+-- so with every record of a list
 abbrev pub AllFit : List Record → Type 0
 AllFit [] = Unit {0}
 AllFit (m ∷ ms) = Fits m × AllFit ms

@@ -1,5 +1,6 @@
--- WHAT A TABLE SAYS, read from its bytes by document 01's description of them alone: any list of bytes has a reading. Definitions only;
--- assumes nothing.
+-- WHAT A TABLE SAYS, read from its bytes by the description of them in documents 01 and 02 alone: any list of bytes has a reading. Definitions
+-- only; assumes nothing.
+use mathlib.Core.Path.{_≡_}
 use mathlib.Core.Bool.{cond}
 use mathlib.Core.List.{List, [], _∷_}
 use Prim.Native.Nat.{ℕ, zero, suc, _+_, _-_, _*_}
@@ -9,9 +10,12 @@ use lib.ListN.{getD}
 use Rattle.table.specs.declared.Head.{Head}
 use Rattle.table.specs.Table.{Record}
 
--- a u32, a u64 and an i32 at an index, "little endian"
+-- a byte, a u32, a u64 and an i32 at an index, "little endian"
+abbrev pub u8At : List ℕ → ℕ → ℕ
+u8At t i = getD t i 0
+
 abbrev pub u32At : List ℕ → ℕ → ℕ
-u32At t i = getD t i 0 + getD t (i + 1) 0 * 256 + getD t (i + 2) 0 * 65536 + getD t (i + 3) 0 * 16777216
+u32At t i = u8At t i + u8At t (i + 1) * 256 + u8At t (i + 2) * 65536 + u8At t (i + 3) * 16777216
 
 abbrev pub u64At : List ℕ → ℕ → ℕ
 u64At t i = u32At t i + u32At t (i + 4) * 4294967296
@@ -42,22 +46,45 @@ openIn t = u64At t 20
 abbrev pub headIn : List ℕ → Head
 headIn t = record { first = firstIn t; cells = cellsIn t; evaluated = evaluatedIn t; solid = solidIn t; «open» = openIn t }
 
--- ---- a cell's slot: "next slot (u32, zero ends the chain), state (u32 ..), three lows, three highs (i32)"
+-- ---- a cell's record: "next slot (u32, zero ends the chain)", then, by document 02's L4, "four bytes: state, depth, and two zeros", then
+-- "three lows, three highs (i32)". Where these stand in its slot
+abbrev pub stateOffset : ℕ
+stateOffset = 4
+
+abbrev pub depthOffset : ℕ
+depthOffset = 5
+
+abbrev pub zerosOffset : ℕ
+zerosOffset = 6
+
+abbrev pub coordinatesOffset : ℕ
+coordinatesOffset = 8
+
 abbrev pub nextIn : List ℕ → ℕ → ℕ
 nextIn t slot = u32At t (32 * slot)
 
+-- the lows and highs, counted from 0
+abbrev pub coordinateIn : List ℕ → ℕ → ℕ → ℤ
+coordinateIn t slot i = i32At t (32 * slot + coordinatesOffset + 4 * i)
+
 unfoldable pub recordIn : List ℕ → ℕ → Record
 recordIn t slot = record {
-  state = u32At t (32 * slot + 4);
+  state = u8At t (32 * slot + stateOffset);
+  depth = u8At t (32 * slot + depthOffset);
   box = record {
-    lx = i32At t (32 * slot + 8);
-    ly = i32At t (32 * slot + 12);
-    lz = i32At t (32 * slot + 16);
-    hx = i32At t (32 * slot + 20);
-    hy = i32At t (32 * slot + 24);
-    hz = i32At t (32 * slot + 28);
+    lx = coordinateIn t slot 0;
+    ly = coordinateIn t slot 1;
+    lz = coordinateIn t slot 2;
+    hx = coordinateIn t slot 3;
+    hy = coordinateIn t slot 4;
+    hz = coordinateIn t slot 5;
   };
 }
+
+-- the state word's last two bytes
+pub record TwoZeros (t : List ℕ) (slot : ℕ) : Type 0 where
+  pub first : u8At t (32 * slot + zerosOffset) ≡ 0
+  pub second : u8At t (32 * slot + zerosOffset + 1) ≡ 0
 
 -- ---- the chain: n cells from a slot on, and the slot that the last of them names
 unfoldable pub chain : ℕ → List ℕ → ℕ → List Record

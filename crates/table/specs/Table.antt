@@ -1,5 +1,5 @@
--- THE TABLE'S BYTES: document 01's "The walk (added)", its words in quotes: "The table is slots of 32 bytes, little endian." A byte is a whole
--- number below 256. Definitions only; assumes nothing.
+-- THE TABLE'S BYTES: document 01's "The walk (added)" and document 02's L4, their words in quotes: "The table is slots of 32 bytes, little
+-- endian." A byte is a whole number below 256. Definitions only; assumes nothing.
 use mathlib.Core.Bool.{cond}
 use mathlib.Core.List.{List, [], _∷_, _++_}
 use Prim.Native.Nat.{ℕ, suc, _+_, _-_, _*_, _/_, _%_}
@@ -21,19 +21,24 @@ abbrev pub bits : ℤ → ℕ
 bits (pos n) = n
 bits (negsuc n) = 4294967295 - n
 
--- a cell as the table has it: its "state (u32: 1 inside, 2 outside, 3 unsettled), three lows, three highs"
+-- a cell's record but for the slot that it names: the cell's state ("1 inside, 2 outside, 3 unsettled"), its depth, its "three lows, three highs"
 pub record Record : Type 0 where
   pub state : ℕ
+  pub depth : ℕ
   pub box : Box
 
 -- "Slot 0: first cell (u32, 1), cells (u32), evaluated (u32), solid volume (u64), open volume (u64), zeros."
 unfoldable pub headBytes : Head → List ℕ
 headBytes h = word4 (h .first) ++ word4 (h .cells) ++ word4 (h .evaluated) ++ word8 (h .solid) ++ word8 (h .«open») ++ replicate 4 0
 
--- "A cell: next slot (u32, zero ends the chain), state (u32 ..), three lows, three highs (i32)."
+-- L4: "The state word becomes four bytes: state, depth, and two zeros."
+unfoldable pub stateWord : ℕ → ℕ → List ℕ
+stateWord state depth = state % 256 ∷ depth % 256 ∷ replicate 2 0
+
+-- "A cell: next slot (u32, zero ends the chain)", the state word, "three lows, three highs (i32)."
 unfoldable pub cellBytes : ℕ → Record → List ℕ
 cellBytes next m =
-    word4 next ++ word4 (m .state)
+    word4 next ++ stateWord (m .state) (m .depth)
     ++ (word4 (bits (m .box .lx)) ++ word4 (bits (m .box .ly)) ++ word4 (bits (m .box .lz)))
     ++ (word4 (bits (m .box .hx)) ++ word4 (bits (m .box .hy)) ++ word4 (bits (m .box .hz)))
 

@@ -1,9 +1,15 @@
-// What is read from a table: a number at an index, little endian, and slot 0.
+// What is read from a table: a number at an index, little endian, slot 0, and a cell's record.
 ghost use mathlib.Core.Path.{_≡_};
-ghost use Prim.Native.Nat.{_+_, _≤_, _<_};
+ghost use Prim.Native.Nat.{_+_, _*_, _≤_, _<_};
 ghost use lib.ListN.{length};
-ghost use Rattle.table.specs.Read.{u32At, u64At, i32At, headIn};
+ghost use Rattle.table.specs.Read.{u32At, u64At, i32At, headIn, nextIn, coordinateIn, recordIn};
 use crate::Head;
+use crate::offsets::CELLS;
+use crate::offsets::COORDINATES;
+use crate::offsets::EVALUATED;
+use crate::offsets::OPEN;
+use crate::offsets::SOLID;
+use crate::offsets::STATE;
 
 // A byte is below 256.
 fn wide(x: u8) -> usize
@@ -13,7 +19,7 @@ fn wide(x: u8) -> usize
     x as usize
 }
 
-pub fn u32_at(t: &[u8], at: usize) -> usize
+fn u32_at(t: &[u8], at: usize) -> usize
     requires { ⌜ at + 4 ≤ length (now t) ⌝ }
     ensures { λ r. ⌜ r ≡ u32At (now (t .entry)) at ⌝ }
     ensures { λ r. ⌜ r < 4294967296 ⌝ }
@@ -28,7 +34,7 @@ fn u64_at(t: &[u8], at: usize) -> usize
     u32_at(t, at) + u32_at(t, at + 4) * 4294967296
 }
 
-pub fn i32_at(t: &[u8], at: usize) -> i64
+fn i32_at(t: &[u8], at: usize) -> i64
     requires { ⌜ at + 4 ≤ length (now t) ⌝ }
     ensures { λ r. ⌜ r ≡ i32At (now (t .entry)) at ⌝ }
 {
@@ -46,9 +52,33 @@ pub fn head_of(t: &[u8]) -> Head
 {
     Head {
         first: u32_at(t, 0),
-        cells: u32_at(t, 4),
-        evaluated: u32_at(t, 8),
-        solid: u64_at(t, 12),
-        open: u64_at(t, 20),
+        cells: u32_at(t, CELLS),
+        evaluated: u32_at(t, EVALUATED),
+        solid: u64_at(t, SOLID),
+        open: u64_at(t, OPEN),
     }
+}
+
+// The slot that a cell's record names.
+pub fn next_of(t: &[u8], slot: usize) -> usize
+    requires { ⌜ 32 * (slot + 1) ≤ length (now t) ⌝ }
+    ensures { λ r. ⌜ r ≡ nextIn (now (t .entry)) slot ⌝ }
+{
+    u32_at(t, 32 * slot)
+}
+
+pub fn state_of(t: &[u8], slot: usize) -> usize
+    requires { ⌜ 32 * (slot + 1) ≤ length (now t) ⌝ }
+    ensures { λ r. ⌜ r ≡ recordIn (now (t .entry)) slot .state ⌝ }
+{
+    wide(t[32 * slot + STATE])
+}
+
+// One of its three lows and three highs, counted from 0.
+pub fn coordinate_of(t: &[u8], slot: usize, i: usize) -> i64
+    requires { ⌜ i < 6 ⌝ }
+    requires { ⌜ 32 * (slot + 1) ≤ length (now t) ⌝ }
+    ensures { λ r. ⌜ r ≡ coordinateIn (now (t .entry)) slot i ⌝ }
+{
+    i32_at(t, 32 * slot + COORDINATES + 4 * i)
 }

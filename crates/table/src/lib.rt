@@ -1,5 +1,6 @@
 // The table's slots, written to and read from lent bytes.
-pub mod get; // a number at an index, slot 0
+mod offsets; // where the numbers of a slot stand
+pub mod get; // slot 0, and a cell's record
 pub mod put; // zeros, slot 0 and the slot of a cell
 
 // Slot 0: its first cell, the numbers of cells and of boxes evaluated, the solid and the open volume.

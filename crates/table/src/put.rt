@@ -6,9 +6,17 @@ ghost use Prim.Native.Nat.{_+_, _-_, _*_, _≤_, _<_};
 ghost use lib.ListN.{length, replicate};
 ghost use lib.Seq.{sets};
 ghost use Rattle.tree.specs.Box.{unshifted, boxOf};
-ghost use Rattle.table.specs.Table.{word4, word8, bits, headBytes, cellBytes};
+ghost use Rattle.table.specs.Table.{word4, word8, bits, headBytes, stateWord, cellBytes};
+ghost use Rattle.table.specs.Read.{stateOffset};
 ghost use Rattle.table.specs.Bounds.{WithinTicks};
 use crate::Head;
+use crate::offsets::CELLS;
+use crate::offsets::COORDINATES;
+use crate::offsets::EVALUATED;
+use crate::offsets::HEAD_ZEROS;
+use crate::offsets::OPEN;
+use crate::offsets::SOLID;
+use crate::offsets::STATE;
 use tree::ShiftedBox;
 
 // Sets every byte from an index on to zero.
@@ -70,22 +78,31 @@ pub fn put_head(t: &mut [u8], head: Head)
     ensures { λ _. ⌜ now (t .exit) ≡ sets (now (t .entry)) 0 (headBytes head) ⌝ }
 {
     put_u32(t, 0, head.first);
-    put_u32(t, 4, head.cells);
-    put_u32(t, 8, head.evaluated);
-    put_u64(t, 12, head.solid);
-    put_u64(t, 20, head.open);
-    put_u32(t, 28, 0);
+    put_u32(t, CELLS, head.cells);
+    put_u32(t, EVALUATED, head.evaluated);
+    put_u64(t, SOLID, head.solid);
+    put_u64(t, OPEN, head.open);
+    put_u32(t, HEAD_ZEROS, 0);
+}
+
+// The state word of the record at an index: the state, the depth and two zeros are one number of 32 bits.
+fn put_state_word(t: &mut [u8], at: usize, state: usize, depth: usize)
+    requires { ⌜ at + 8 ≤ length (now t) ⌝ }
+    ensures { λ _. ⌜ now (t .exit) ≡ sets (now (t .entry)) (at + stateOffset) (stateWord state depth) ⌝ }
+{
+    put_u32(t, at + STATE, state % 256 + 256 * (depth % 256));
 }
 
 // The slot of a cell.
-pub fn put_cell(t: &mut [u8], slot: usize, next: usize, state: usize, b: ShiftedBox)
+pub fn put_cell(t: &mut [u8], slot: usize, next: usize, state: usize, depth: usize, b: ShiftedBox)
     requires { ⌜ WithinTicks b ⌝ }
     requires { ⌜ 32 * (slot + 1) ≤ length (now t) ⌝ }
-    ensures { λ _. ⌜ now (t .exit) ≡ sets (now (t .entry)) (32 * slot) (cellBytes next (record { state = state; box = boxOf b })) ⌝ }
+    ensures { λ _. ⌜ now (t .exit)
+        ≡ sets (now (t .entry)) (32 * slot) (cellBytes next (record { state = state; depth = depth; box = boxOf b })) ⌝ }
 {
     let at = 32 * slot;
     put_u32(t, at, next);
-    put_u32(t, at + 4, state);
-    put_corner(t, at + 8, b.lx, b.ly, b.lz);
-    put_corner(t, at + 20, b.hx, b.hy, b.hz);
+    put_state_word(t, at, state, depth);
+    put_corner(t, at + COORDINATES, b.lx, b.ly, b.lz);
+    put_corner(t, at + COORDINATES + 12, b.hx, b.hy, b.hz);
 }

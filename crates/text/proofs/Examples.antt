@@ -104,8 +104,8 @@ byte-behind a = differ (ap (λ (l : List ℕ). getD l 1 0) (a .written))
 -- document 01's cells
 cells : List Record
 cells =
-    record { state = 1; box = record { lx = pos 0; ly = pos 0; lz = pos 0; hx = pos 512; hy = pos 1024; hz = pos 1024 } }
-    ∷ record { state = 3; box = record { lx = pos 512; ly = pos 0; lz = pos 0; hx = pos 1024; hy = pos 1024; hz = pos 1024 } }
+    record { state = 1; depth = 1; box = record { lx = pos 0; ly = pos 0; lz = pos 0; hx = pos 512; hy = pos 1024; hz = pos 1024 } }
+    ∷ record { state = 3; depth = 1; box = record { lx = pos 512; ly = pos 0; lz = pos 0; hx = pos 1024; hy = pos 1024; hz = pos 1024 } }
     ∷ []
 
 head : Head

@@ -1,18 +1,18 @@
 -- The printed lines, part by part, and their lengths. Assumes nothing.
 use mathlib.Core.Path.{_≡_, refl, sym, ap, _∙_}
 use mathlib.Core.List.{List, [], _∷_, _++_}
-use Prim.Native.Nat.{ℕ, _+_, _-_, _*_, _≤_, _<_}
-use native.Mathlib.Nat.{add-zero}
+use Prim.Native.Nat.{ℕ, _+_, _-_, _≤_, _<_}
 use native.Mathlib.Omega.{arith}
 use lib.IntN.{ℤ}
 use lib.ListN.{length, length-append}
+use Rattle.tree.specs.Box.{Box}
 use Rattle.table.specs.declared.Head.{Head}
 use Rattle.table.specs.Table.{Record}
-use Rattle.table.specs.Read.{u32At, headIn, recordIn, chain}
-use Rattle.table.proofs.ReadLaws.{record-is, chain-end, chain-step}
+use Rattle.table.specs.Read.{headIn, nextIn, recordIn, chain}
+use Rattle.table.proofs.ReadLaws.{box-is, chain-end, chain-step}
 use Rattle.text.specs.Decimal.{decimal, signedDecimal}
 use Rattle.text.specs.Listing.{spaced, refusedText, headLine, cornerText, cellLine, cellLines, listing}
-use Rattle.text.specs.Appended.{cornerAt}
+use Rattle.text.specs.Appended.{cornerIn}
 
 pub length-refused : (n : ℕ) → length (refusedText n) ≡ length (decimal n) + 9
 unfolding refusedText
@@ -43,28 +43,28 @@ unfolding cellLine
 length-line m = simp length-append (omega arith)
 
 -- ---- the line of the cell in a slot
-pub cell-is : (t : List ℕ) (slot : ℕ) → cellLine (recordIn t slot) ≡ decimal (u32At t (32 * slot + 4)) ++ cornerAt t slot 8 ++ cornerAt t slot 20 ++ (10 ∷ [])
-unfolding cellLine
-cell-is t slot = ap cellLine (record-is t slot)
+module _ (t : List ℕ) (slot : ℕ) where
+  pub cell-is : cellLine (recordIn t slot) ≡ decimal (recordIn t slot .state) ++ cornerIn t slot 0 ++ cornerIn t slot 3 ++ (10 ∷ [])
+  unfolding cellLine
+  cell-is = ap (λ (b : Box). cellLine (record { state = recordIn t slot .state; depth = recordIn t slot .depth; box = b })) (box-is t slot)
 
-pub length-cell : (t : List ℕ) (slot : ℕ)
-    → length (cellLine (recordIn t slot)) ≡ length (decimal (u32At t (32 * slot + 4))) + length (cornerAt t slot 8) + length (cornerAt t slot 20) + 1
-length-cell t slot = rw record-is (length-line _)
+  pub length-cell : length (cellLine (recordIn t slot))
+      ≡ length (decimal (recordIn t slot .state)) + length (cornerIn t slot 0) + length (cornerIn t slot 3) + 1
+  length-cell = rw cell-is (simp length-append (omega arith))
 
 -- ---- the lines of a chain
 pub cells-end : (n : ℕ) (t : List ℕ) (slot : ℕ) → n ≤ 0 → cellLines (chain n t slot) ≡ []
 unfolding cellLines
 cells-end n t slot h = ap cellLines (chain-end n t slot h)
 
--- the slot after this one is named at its start
-pub cells-step : (n : ℕ) (t : List ℕ) (slot : ℕ) {next : ℕ} → 0 < n → next ≡ u32At t (32 * slot + 0)
+pub cells-step : (n : ℕ) (t : List ℕ) (slot : ℕ) {next : ℕ} → 0 < n → next ≡ nextIn t slot
     → cellLines (chain n t slot) ≡ cellLine (recordIn t slot) ++ cellLines (chain (n - 1) t next)
 unfolding cellLines
 cells-step n t slot h e =
     ap cellLines (chain-step n t slot h)
-    ∙ ap (λ (s : ℕ). cellLine (recordIn t slot) ++ cellLines (chain (n - 1) t s)) (sym (e ∙ ap (u32At t) (add-zero (32 * slot))))
+    ∙ ap (λ (s : ℕ). cellLine (recordIn t slot) ++ cellLines (chain (n - 1) t s)) (sym e)
 
-pub length-cells-step : (n : ℕ) (t : List ℕ) (slot : ℕ) {next : ℕ} → 0 < n → next ≡ u32At t (32 * slot + 0)
+pub length-cells-step : (n : ℕ) (t : List ℕ) (slot : ℕ) {next : ℕ} → 0 < n → next ≡ nextIn t slot
     → length (cellLines (chain n t slot)) ≡ length (cellLine (recordIn t slot)) + length (cellLines (chain (n - 1) t next))
 length-cells-step n t slot {next} h e = rw (cells-step n t slot h e) (length-append (cellLine (recordIn t slot)) (cellLines (chain (n - 1) t next)))
 

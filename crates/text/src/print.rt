@@ -7,8 +7,8 @@ ghost use lib.IntN.{natAbs};
 ghost use lib.ListN.{length};
 ghost use lib.Seq.{sets};
 ghost use Rattle.exact.specs.Within.{Within};
-ghost use Rattle.table.specs.Read.{u32At, i32At, recordIn, chain};
-ghost use Rattle.text.specs.Appended.{Appended, cornerAt};
+ghost use Rattle.table.specs.Read.{nextIn, coordinateIn, recordIn, chain};
+ghost use Rattle.text.specs.Appended.{Appended, cornerIn};
 ghost use Rattle.text.specs.Decimal.{decimal, signedDecimal};
 ghost use Rattle.text.specs.Listing.{spaced, refusedText, headLine, cellLine, cellLines, listing, Front};
 use crate::ascii::MINUS;
@@ -16,9 +16,10 @@ use crate::ascii::NEWLINE;
 use crate::ascii::NOUGHT;
 use crate::ascii::SPACE;
 use table::Head;
+use table::get::coordinate_of;
 use table::get::head_of;
-use table::get::i32_at;
-use table::get::u32_at;
+use table::get::next_of;
+use table::get::state_of;
 
 fn put_byte(out: &mut [u8], at: usize, b: usize) -> usize
     requires { ⌜ at + 1 ≤ length (now out) ⌝ }
@@ -85,51 +86,59 @@ fn put_spaced(out: &mut [u8], at: usize, n: usize) -> usize
     put_decimal(out, next, n)
 }
 
-// A number of a slot; a chain may name slots past the table's end, and zeros are read there.
-fn u32_of(table: &[u8], slot: usize, place: usize) -> usize
+// ---- a cell's record; a chain may name slots past the table's end, and zeros are read there
+fn next_slot(table: &[u8], slot: usize) -> usize
     requires { ⌜ length (now table) ≡ 65536 ⌝ }
-    requires { ⌜ place + 4 ≤ 32 ⌝ }
-    ensures { λ r. ⌜ r ≡ u32At (now (table .entry)) (32 * slot + place) ⌝ }
-    ensures { λ r. ⌜ r < 4294967296 ⌝ }
+    ensures { λ r. ⌜ r ≡ nextIn (now (table .entry)) slot ⌝ }
 {
     if slot < 2048 {
-        return u32_at(table, 32 * slot + place);
+        return next_of(table, slot);
     }
     0
 }
 
-fn i32_of(table: &[u8], slot: usize, place: usize) -> i64
+fn state(table: &[u8], slot: usize) -> usize
     requires { ⌜ length (now table) ≡ 65536 ⌝ }
-    requires { ⌜ place + 4 ≤ 32 ⌝ }
-    ensures { λ r. ⌜ r ≡ i32At (now (table .entry)) (32 * slot + place) ⌝ }
+    ensures { λ r. ⌜ r ≡ recordIn (now (table .entry)) slot .state ⌝ }
 {
     if slot < 2048 {
-        return i32_at(table, 32 * slot + place);
+        return state_of(table, slot);
     }
     0
 }
 
-fn put_coordinate(table: &[u8], slot: usize, place: usize, out: &mut [u8], at: usize) -> usize
+fn coordinate(table: &[u8], slot: usize, i: usize) -> i64
     requires { ⌜ length (now table) ≡ 65536 ⌝ }
-    requires { ⌜ place + 4 ≤ 32 ⌝ }
-    requires { ⌜ at + length (spaced (signedDecimal (i32At (now table) (32 * slot + place)))) ≤ length (now out) ⌝ }
-    ensures { λ r. ⌜ Appended (now (out .entry)) at (spaced (signedDecimal (i32At (now (table .entry)) (32 * slot + place)))) (now (out .exit)) r ⌝ }
+    requires { ⌜ i < 6 ⌝ }
+    ensures { λ r. ⌜ r ≡ coordinateIn (now (table .entry)) slot i ⌝ }
 {
-    let x = i32_of(table, slot, place);
+    if slot < 2048 {
+        return coordinate_of(table, slot, i);
+    }
+    0
+}
+
+fn put_coordinate(table: &[u8], slot: usize, i: usize, out: &mut [u8], at: usize) -> usize
+    requires { ⌜ length (now table) ≡ 65536 ⌝ }
+    requires { ⌜ i < 6 ⌝ }
+    requires { ⌜ at + length (spaced (signedDecimal (coordinateIn (now table) slot i))) ≤ length (now out) ⌝ }
+    ensures { λ r. ⌜ Appended (now (out .entry)) at (spaced (signedDecimal (coordinateIn (now (table .entry)) slot i))) (now (out .exit)) r ⌝ }
+{
+    let x = coordinate(table, slot, i);
     let next = put_byte(out, at, SPACE);
     put_signed(out, next, x)
 }
 
-// Three coordinates of a slot.
-fn put_corner(table: &[u8], slot: usize, place: usize, out: &mut [u8], at: usize) -> usize
+// Three coordinates of a cell, from the i-th on.
+fn put_corner(table: &[u8], slot: usize, i: usize, out: &mut [u8], at: usize) -> usize
     requires { ⌜ length (now table) ≡ 65536 ⌝ }
-    requires { ⌜ place + 12 ≤ 32 ⌝ }
-    requires { ⌜ at + length (cornerAt (now table) slot place) ≤ length (now out) ⌝ }
-    ensures { λ r. ⌜ Appended (now (out .entry)) at (cornerAt (now (table .entry)) slot place) (now (out .exit)) r ⌝ }
+    requires { ⌜ i + 2 < 6 ⌝ }
+    requires { ⌜ at + length (cornerIn (now table) slot i) ≤ length (now out) ⌝ }
+    ensures { λ r. ⌜ Appended (now (out .entry)) at (cornerIn (now (table .entry)) slot i) (now (out .exit)) r ⌝ }
 {
-    let y = put_coordinate(table, slot, place, out, at);
-    let z = put_coordinate(table, slot, place + 4, out, y);
-    put_coordinate(table, slot, place + 8, out, z)
+    let y = put_coordinate(table, slot, i, out, at);
+    let z = put_coordinate(table, slot, i + 1, out, y);
+    put_coordinate(table, slot, i + 2, out, z)
 }
 
 // The line of a cell.
@@ -138,9 +147,9 @@ fn put_cell(table: &[u8], slot: usize, out: &mut [u8], at: usize) -> usize
     requires { ⌜ at + length (cellLine (recordIn (now table) slot)) ≤ length (now out) ⌝ }
     ensures { λ r. ⌜ Appended (now (out .entry)) at (cellLine (recordIn (now (table .entry)) slot)) (now (out .exit)) r ⌝ }
 {
-    let lows = put_decimal(out, at, u32_of(table, slot, 4));
-    let highs = put_corner(table, slot, 8, out, lows);
-    let end = put_corner(table, slot, 20, out, highs);
+    let lows = put_decimal(out, at, state(table, slot));
+    let highs = put_corner(table, slot, 0, out, lows);
+    let end = put_corner(table, slot, 3, out, highs);
     put_byte(out, end, NEWLINE)
 }
 
@@ -155,7 +164,7 @@ fn put_cells(table: &[u8], first: usize, cells: usize, out: &mut [u8], from: usi
     let mut left = cells;
     while left > 0 {
         at = put_cell(table, slot, out, at);
-        slot = u32_of(table, slot, 0);
+        slot = next_slot(table, slot);
         left -= 1;
     }
     at

@@ -28,7 +28,7 @@ fn run_twice(g: Gyroid, b: ShiftedBox, depth: usize, table: &mut [u8]) -> u32
         zero(table, 0);
         return 13;
     }
-    fill(g, root, step, depth, table, 1, 2, true, 0);
+    fill(g, root, step, depth, table, 1, 2, true, 0, depth);
     zero(table, 32 * (n.cells + 1));
     put_head(table, n.head(b));
     0

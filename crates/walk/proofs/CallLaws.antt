@@ -4,6 +4,7 @@ use mathlib.Core.Bool.{not, _&&_}
 use mathlib.Core.List.{List}
 use Prim.Native.Nat.{ℕ, _+_, _-_, _*_, _/_, _≤_, _<_}
 use native.Mathlib.Omega.{arith}
+use native.Mathlib.Nat.{sub-self}
 use lib.Dec.{T, eqb, leb→le}
 use lib.IntN.{ℤ, pos, negsuc, natAbs}
 use lib.ListN.{length, replicate}
@@ -28,7 +29,7 @@ use Rattle.gyroid.specs.FunctionsInUse.{certified}
 use Rattle.gyroid.proofs.LeafLaws.{number-is, leaf-is}
 use Rattle.tree.specs.Box.{Box, Good, boxFrom, low, high, longest}
 use Rattle.tree.specs.InTicks.{InTicks}
-use Rattle.tree.specs.Tree.{leaves}
+use Rattle.tree.specs.Tree.{leaves, cells}
 use Rattle.tree.proofs.HalfLaws.{by-axis}
 use Rattle.tree.proofs.TickLaws.{ticks-good}
 use Rattle.tree.proofs.CountLaws.{length-cells}
@@ -96,6 +97,11 @@ module _ (g : Gyroid) (D : ℕ) (b : Box) (t : List ℕ) where
   room-refused ez h =
       let e = lt-ltb (length t / 32) (length (cellsOf g D b) + 1) (omega (arith, length-cells (settled g) longest D 0 b)) in
       (rw e, rw e ez)
+
+  -- the writer's cells from the root on, whose depth is 0
+  pub root-placed : {x : Box} {m : List ℕ} → m ≡ placed t 1 2 0 (recordsOf g (cells (settled g) longest D (D - D) x)) → x ≡ b
+      → m ≡ placed t 1 2 0 (recordsOf g (cellsOf g D b))
+  root-placed e f = e ∙ (λ i. placed t 1 2 0 (recordsOf g (cells (settled g) longest D (sub-self D i) (f i))))
 
   -- the table holds them
   pub room-done : {c : Counted} {h : Head} {m z r : List ℕ} → HasRoom g D b 2 (length t / 32) c → m ≡ placed t 1 2 0 (recordsOf g (cellsOf g D b))

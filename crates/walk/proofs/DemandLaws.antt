@@ -35,7 +35,8 @@ use Rattle.table.specs.Bounds.{HeadFits, Fits, AllFit}
 use Rattle.table.specs.Told.{Told}
 use Rattle.table.proofs.BoundLaws.{good-fits}
 use Rattle.table.proofs.ReadBack.{told}
-use Rattle.walk.specs.Walk.{stateAt, isSettled, settled, inside, cellsOf, evaluatedOf, solidOf, recordOf, recordsOf, headOf, tableOf, roomRefusal, roomTable}
+use Rattle.walk.specs.Walk.{stateAt, isSettled, settled, inside, cellsOf, evaluatedOf, solidOf, recordOf, recordsOf, headOf, tableOf}
+use Rattle.walk.specs.Walk.{roomRefusal, roomTable}
 use Rattle.walk.specs.Demand.{Every, Pairwise, recordBoxes, AllBelowZero, AllAboveZero, Undecided, Demand}
 use Rattle.walk.proofs.EndLaws.{lows-ticks, highs-ticks}
 use Rattle.walk.proofs.RecordLaws.{length-records, record-boxes-are, every, pairwise}
@@ -61,7 +62,7 @@ number-other Inside n = inl refl
 number-other Outside n = inr refl
 number-other Unsettled n = absurd (n refl)
 
-number-below : (s : State) → stateNumber s < 4294967296
+number-below : (s : State) → stateNumber s < 256
 number-below Inside = omega arith
 number-below Outside = omega arith
 number-below Unsettled = omega arith
@@ -83,15 +84,15 @@ module _ (ar : Arithmetic) (d : Description) (accepted : Accepted d) (D : ℕ) w
     above-zero : stateNumber (stateAt ar (leaf ar d) (c .box)) ≡ 2 → AllAboveZero d (c .box)
     above-zero e = subst (Settles d (lows (c .box)) (highs (c .box))) (number-outside (stateAt ar (leaf ar d) (c .box)) e) settles
 
-    undecided : stateNumber (stateAt ar (leaf ar d) (c .box)) ≡ 3 → Undecided ar d D c
+    undecided : stateNumber (stateAt ar (leaf ar d) (c .box)) ≡ 3 → Undecided ar d D (recordOf ar (leaf ar d) c)
     undecided e =
         let u = number-unsettled (stateAt ar (leaf ar d) (c .box)) e in
         record { not-settled = u; ended = ⊎-elim (λ k. inl k) (λ s. inr (cube-stops (stateAt ar (leaf ar d) (c .box)) (oneCube (c .box)) u s)) (m .why) }
 
-    fits : Fits (recordOf ar (leaf ar d) c)
-    fits = good-fits (recordOf ar (leaf ar d) c) (number-below (stateAt ar (leaf ar d) (c .box))) (m .good)
+    fits : D ≤ 24 → Fits (recordOf ar (leaf ar d) c)
+    fits shallow = good-fits (recordOf ar (leaf ar d) c) (number-below (stateAt ar (leaf ar d) (c .box))) (omega (arith, m .depth-le)) (m .good)
 
-  unsettled-number : (c : Cell) → Undecided ar d D c → stateNumber (stateAt ar (leaf ar d) (c .box)) ≡ 3
+  unsettled-number : (c : Cell) → Undecided ar d D (recordOf ar (leaf ar d) c) → stateNumber (stateAt ar (leaf ar d) (c .box)) ≡ 3
   unsettled-number c u = ap stateNumber (u .not-settled)
 
   -- ---- of the tree of a box
@@ -112,7 +113,7 @@ module _ (ar : Arithmetic) (d : Description) (accepted : Accepted d) (D : ℕ) w
     all-fit : (cs : List Cell) → All (Stopped (settled ar (leaf ar d)) longest D) cs → AllFit (recordsOf ar (leaf ar d) cs)
     unfolding recordsOf
     all-fit [] q = tt
-    all-fit (c ∷ cs) q = (fits c (q .0), all-fit cs (q .1))
+    all-fit (c ∷ cs) q = (fits c (q .0) shallow, all-fit cs (q .1))
 
     cells-many : length cs ≡ leaves (settled ar (leaf ar d)) longest D b
     cells-many = length-cells (settled ar (leaf ar d)) longest D 0 b
@@ -158,11 +159,13 @@ module _ (ar : Arithmetic) (d : Description) (accepted : Accepted d) (D : ℕ) w
         no-cell = λ x y z h. holders-are x y z ∙ rw h;
         inside = subst⁻¹ (Every (λ m. m .state ≡ 1 → AllBelowZero d (m .box))) (r .records-are) (every ar (leaf ar d) _ _ below-zero cs each);
         outside = subst⁻¹ (Every (λ m. m .state ≡ 2 → AllAboveZero d (m .box))) (r .records-are) (every ar (leaf ar d) _ _ above-zero cs each);
-        unsettled = subst⁻¹ (λ (l : List Record). Pairwise (λ m c. (m .state ≡ 3 → Undecided ar d D c) × (Undecided ar d D c → m .state ≡ 3)) l cs) (r .records-are)
-            (pairwise ar (leaf ar d) _ _ (λ c m. (undecided c m, unsettled-number c)) cs each);
-        walk-order = subst⁻¹ (λ (l : List Record). Pairwise (λ m c. m .box ≡ c .box) l cs) (r .records-are) (pairwise ar (leaf ar d) _ _ (λ c m. refl) cs each);
+        unsettled = subst⁻¹ (Every (λ m. (m .state ≡ 3 → Undecided ar d D m) × (Undecided ar d D m → m .state ≡ 3))) (r .records-are)
+            (every ar (leaf ar d) _ _ (λ c m. (undecided c m, unsettled-number c)) cs each);
+        walk-order = subst⁻¹ (λ (l : List Record). Pairwise (λ m c. (m .box ≡ c .box) × (m .depth ≡ c .depth)) l cs) (r .records-are)
+            (pairwise ar (leaf ar d) _ _ (λ c m. (refl, refl)) cs each);
         marked = subst⁻¹ (Every (λ m. (m .state ≡ 3 → ⊥) → (m .state ≡ 1) ⊎ (m .state ≡ 2))) (r .records-are)
             (every ar (leaf ar d) _ _ (λ c m. number-other (stateAt ar (leaf ar d) (c .box))) cs each);
+        zeros = r .zeros;
         evaluated = omega (arith, evaluated-read, cells-read, box-count-leaves (settled ar (leaf ar d)) longest D b);
         evaluated-most = omega (
           arith,

@@ -1,4 +1,4 @@
--- The tree's cells as the table has them, one by one. Assumes nothing.
+-- The records of the tree's cells, one by one. Assumes nothing.
 use mathlib.Core.Path.{_≡_, refl, sym, ap, _∙_}
 use mathlib.Core.List.{List, [], _∷_, _++_}
 use Prim.Native.Nat.{ℕ, suc, _-_}
@@ -59,13 +59,14 @@ module _ (ar : Arithmetic) (g : Gyroid) where
 -- in use: the records of a box that is a cell, and of one that is halved
 module _ (g : Gyroid) where
   pub records-cell : (d k : ℕ) (b : Box) (s : State) {x : ℕ} → AtCell g d b s → x ≡ stateNumber s
-      → recordsOf g (cells (settled g) longest d k b) ≡ record { state = x; box = b } ∷ []
+      → recordsOf g (cells (settled g) longest d k b) ≡ record { state = x; depth = k; box = b } ∷ []
   records-cell d k b s at e =
       ap (recordsOf g) (at .tree .cells1 k) ∙ records-one inUse g (record { box = b; depth = k })
-      ∙ (λ i. record { state = (ap stateNumber (at .state) ∙ sym e) i; box = b } ∷ [])
+      ∙ (λ i. record { state = (ap stateNumber (at .state) ∙ sym e) i; depth = k; box = b } ∷ [])
 
-  pub records-halves : (d k : ℕ) (b l h : Box) (a : Axis) → AtHalves g d b a → l ≡ lower a b → h ≡ upper a b
+  pub records-halves : (d k j : ℕ) (b l h : Box) (a : Axis) → AtHalves g d b a → j ≡ suc k → l ≡ lower a b → h ≡ upper a b
       → recordsOf g (cells (settled g) longest d k b)
-      ≡ recordsOf g (cells (settled g) longest (d - 1) (suc k) l) ++ recordsOf g (cells (settled g) longest (d - 1) (suc k) h)
-  records-halves d k b l h a at e f =
+      ≡ recordsOf g (cells (settled g) longest (d - 1) j l) ++ recordsOf g (cells (settled g) longest (d - 1) j h)
+  records-halves d k j b l h a at s e f =
       ap (recordsOf g) (at .cells2 k e f) ∙ records-append inUse g (cells (settled g) longest (d - 1) (suc k) l) (cells (settled g) longest (d - 1) (suc k) h)
+      ∙ ap (λ (i : ℕ). recordsOf g (cells (settled g) longest (d - 1) i l) ++ recordsOf g (cells (settled g) longest (d - 1) i h)) (sym s)

@@ -48,7 +48,8 @@ number-most Outside = omega arith
 number-most Unsettled = omega arith
 
 -- the table behind all refusals
-room-left : (ar : Arithmetic) (g : Gyroid) (D : ℕ) (b : Box) (len : ℕ) → roomRefusal ar g D b len ≡ 0 → length (recordsOf ar g (cellsOf ar g D b)) + 1 ≤ len / 32
+room-left : (ar : Arithmetic) (g : Gyroid) (D : ℕ) (b : Box) (len : ℕ) → roomRefusal ar g D b len ≡ 0
+    → length (recordsOf ar g (cellsOf ar g D b)) + 1 ≤ len / 32
 unfolding roomRefusal
 room-left ar g D b len e =
     omega (

@@ -24,7 +24,7 @@ use Rattle.tree.specs.declared.Axis.{Axis}
 use Rattle.tree.specs.Box.{Box, boxFrom, low, high, lows, highs, oneCube, volume, holdsCube, holders}
 use Rattle.tree.specs.Tree.{Cell}
 use Rattle.table.specs.Table.{Record}
-use Rattle.table.specs.Read.{firstIn, cellsIn, evaluatedIn, solidIn, openIn, recordsIn, chainEnd}
+use Rattle.table.specs.Read.{firstIn, cellsIn, evaluatedIn, solidIn, openIn, TwoZeros, recordsIn, chainEnd}
 use Rattle.walk.specs.Walk.{stateAt, cellsOf, evaluatedOf, solidOf}
 
 -- every cell of the table has a property
@@ -39,7 +39,7 @@ Pairwise P [] (c ∷ cs) = ⊥
 Pairwise P (m ∷ ms) [] = ⊥
 Pairwise P (m ∷ ms) (c ∷ cs) = P m c × Pairwise P ms cs
 
--- the boxes of the table's cells
+-- the boxes of the table's records
 unfoldable pub recordBoxes : List Record → List Box
 recordBoxes [] = []
 recordBoxes (m ∷ ms) = m .box ∷ recordBoxes ms
@@ -71,9 +71,9 @@ module _ (ar : Arithmetic) where
 
   module _ (d : Description) where
     -- the residual does not settle the cell's box, "and it stands at depth D or is one tick cube"
-    pub record Undecided (D : ℕ) (c : Cell) : Type 0 where
-      pub not-settled : stateAt ar (leaf ar d) (c .box) ≡ Unsettled
-      pub ended : (c .depth ≡ D) ⊎ (oneCube (c .box) ≡ true)
+    pub record Undecided (D : ℕ) (m : Record) : Type 0 where
+      pub not-settled : stateAt ar (leaf ar d) (m .box) ≡ Unsettled
+      pub ended : (m .depth ≡ D) ⊎ (oneCube (m .box) ≡ true)
 
     -- of the box b, the depth D and the bytes t
     pub record Demand (b : Box) (D : ℕ) (t : List ℕ) : Type 0 where
@@ -86,11 +86,13 @@ module _ (ar : Arithmetic) where
       -- "At every rational point of one marked outside, all are above zero."
       pub outside : Every (λ m. m .state ≡ 2 → AllAboveZero d (m .box)) (recordsIn t)
       -- "A cell is unsettled exactly when demand 2's residual doesn't settle its box and it stands at depth D or is one tick cube."
-      pub unsettled : Pairwise (λ m c. (m .state ≡ 3 → Undecided D c) × (Undecided D c → m .state ≡ 3)) (recordsIn t) (cellsOf ar (leaf ar d) D b)
+      pub unsettled : Every (λ m. (m .state ≡ 3 → Undecided D m) × (Undecided D m → m .state ≡ 3)) (recordsIn t)
       -- "The table's cells are the tree's, in walk order,
-      pub walk-order : Pairwise (λ m c. m .box ≡ c .box) (recordsIn t) (cellsOf ar (leaf ar d) D b)
+      pub walk-order : Pairwise (λ m c. (m .box ≡ c .box) × (m .depth ≡ c .depth)) (recordsIn t) (cellsOf ar (leaf ar d) D b)
       -- and one that isn't unsettled is marked inside or outside."
       pub marked : Every (λ m. (m .state ≡ 3 → ⊥) → (m .state ≡ 1) ⊎ (m .state ≡ 2)) (recordsIn t)
+      -- of each cell's state word, document 02's L4: "state, depth, and two zeros"
+      pub zeros : (slot : ℕ) → 1 ≤ slot → slot ≤ cellsIn t → TwoZeros t slot
       -- "Evaluated = 2 × cells − 1, at most 2^(D+1) − 1", and it is the number of boxes in the tree
       pub evaluated : evaluatedIn t + 1 ≡ 2 * cellsIn t
       pub evaluated-most : evaluatedIn t + 1 ≤ 2 ^ suc D

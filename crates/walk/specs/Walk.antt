@@ -61,9 +61,9 @@ module _ (ar : Arithmetic) where
   abbrev pub openOf : Gyroid → ℕ → Box → ℕ
   openOf g D b = volume b - solidOf g D b
 
-  -- the cells as the table has them
+  -- the cells' records
   abbrev pub recordOf : Gyroid → Cell → Record
-  recordOf g c = record { state = stateNumber (stateAt g (c .box)); box = c .box }
+  recordOf g c = record { state = stateNumber (stateAt g (c .box)); depth = c .depth; box = c .box }
 
   unfoldable pub recordsOf : Gyroid → List Cell → List Record
   recordsOf g [] = []

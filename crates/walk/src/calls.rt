@@ -50,7 +50,8 @@ fn run(g: Gyroid, b: ShiftedBox, depth: usize, table: &mut [u8]) -> u32
     ensures left { λ _. ⌜ now (table .exit) ≡ roomTable g depth (boxOf b) (length (now (table .entry))) ⌝ }
 {
     let root = Node::root(g, b);
-    let Filled::Done(n) = fill(g, root, root.look(depth), depth, table, 1, 2, true, 0) else {
+    let step = root.look(depth);
+    let Filled::Done(n) = fill(g, root, step, depth, table, 1, 2, true, 0, depth) else {
         zero(table, 0);
         return 13;
     };

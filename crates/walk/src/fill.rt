@@ -1,7 +1,7 @@
 // The cells of the tree, written to their slots in walk order as the walk comes to them. No box is evaluated twice.
 ghost use mathlib.Core.Path.{_≡_};
 ghost use mathlib.Core.Bool.{cond};
-ghost use Prim.Native.Nat.{ℕ, _+_, _-_, _/_, _≤_, _<_};
+ghost use Prim.Native.Nat.{_+_, _-_, _/_, _≤_, _<_};
 ghost use lib.ListN.{length};
 ghost use Rattle.table.specs.Placed.{placed};
 ghost use Rattle.tree.specs.Box.{boxOf, longest};
@@ -29,7 +29,8 @@ fn named(last: bool, fresh: usize, after: usize) -> usize
 
 // The first cell to `slot`, the others to the slots from `fresh` on. The last of them names `after` if it is the last of all (`last`), and
 // otherwise the slot behind them. Full as soon as a cell has no slot. What is done at the box, `step`, comes from the caller, who has just
-// evaluated it: to read it back from a copied node would take longer. The depth that is left is the falling number.
+// evaluated it: to read it back from a copied node would take longer. The depth that is left is the falling number; `limit` is what is left at
+// the root of the walk, so that a cell's depth is `limit` less the depth that is left.
 pub fn fill(
     g: Gyroid,
     n: Node,
@@ -40,16 +41,18 @@ pub fn fill(
     fresh: usize,
     last: bool,
     after: usize,
+    limit: usize,
 ) -> Filled
     requires { ⌜ Stands g n ⌝ }
     requires { ⌜ step ≡ stepOf (n .s) depth (boxOf (n .b)) ⌝ }
-    requires { ⌜ depth ≤ 24 ⌝ }
+    requires { ⌜ depth ≤ limit ⌝ }
+    requires { ⌜ limit ≤ 24 ⌝ }
     requires { ⌜ slot < fresh ⌝ }
     requires { ⌜ fresh + leaves (settled g) longest depth (boxOf (n .b)) ≤ 8589934592 ⌝ }
     ensures { λ r. ⌜ r ≡ filledOf g depth (boxOf (n .b)) fresh (length (now (t .entry)) / 32) ⌝ }
-    ensures { λ _. ⌜ (fresh + leaves (settled g) longest depth (boxOf (n .b)) ≤ length (now (t .entry)) / 32 + 1 → (k : ℕ)
+    ensures { λ _. ⌜ (fresh + leaves (settled g) longest depth (boxOf (n .b)) ≤ length (now (t .entry)) / 32 + 1
         → now (t .exit) ≡ placed (now (t .entry)) slot fresh (cond last after (fresh + leaves (settled g) longest depth (boxOf (n .b)) - 1))
-        (recordsOf g (cells (settled g) longest depth k (boxOf (n .b))))) ⌝ }
+        (recordsOf g (cells (settled g) longest depth (limit - depth) (boxOf (n .b))))) ⌝ }
 {
     match step {
         Step::Cell(s) => {
@@ -57,22 +60,25 @@ pub fn fill(
                 return Filled::Full;
             }
             let b = n.b;
-            put_cell(t, slot, named(last, fresh, after), number(s), b);
+            let next = named(last, fresh, after);
+            put_cell(t, slot, next, number(s), limit - depth, b);
             Filled::Done(Counted::cell(s, b))
         }
         Step::Halves(a) => {
             let b = n.b;
+            let left = depth - 1;
             let lower = n.beside(g, a, b.lower(a));
             let low = fill(
                 g,
                 lower,
-                lower.look(depth - 1),
-                depth - 1,
+                lower.look(left),
+                left,
                 t,
                 slot,
                 fresh,
                 false,
                 after,
+                limit,
             );
             let Filled::Done(l) = low else {
                 return Filled::Full;
@@ -82,13 +88,14 @@ pub fn fill(
             let high = fill(
                 g,
                 upper,
-                upper.look(depth - 1),
-                depth - 1,
+                upper.look(left),
+                left,
                 t,
                 mid,
                 mid + 1,
                 last,
                 after,
+                limit,
             );
             let Filled::Done(h) = high else {
                 return Filled::Full;

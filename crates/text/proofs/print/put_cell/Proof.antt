@@ -11,7 +11,7 @@ use Rattle.text.proofs.print.put_cell.Statement.{statement}
 use Rattle.text.proofs.print.put_cell.Tie as tie
 
 -- ---- the way back from a part that is put to the one before it
-abbrev start : tie.After-u32-of → tie.Start
+abbrev start : tie.After-state → tie.Start
 start c = c .before .before .before .before
 
 abbrev state : tie.After-put-corner → tie.After-put-decimal
@@ -21,14 +21,14 @@ abbrev lows : tie.After-put-corner2 → tie.After-put-corner
 lows c = c .before .before .before .before
 
 -- ---- the needs
-u32-of-requires : tie.Need-u32-of-requires
-u32-of-requires c κs = search needs
+state-requires : tie.Need-state-requires
+state-requires c κs = search needs
 
 put-decimal-requires : tie.Need-put-decimal-requires
 put-decimal-requires c κs =
     let s = start c in
     let n = length-cell (s .args .table .now) (s .args .slot) in
-    let e = ap (λ (k : ℕ). length (decimal k)) (c .u32-of .ensures .0) in
+    let e = ap (λ (k : ℕ). length (decimal k)) (c .state .ensures) in
     omega (arith, s .pre .1, n, e)
 
 put-corner-requires : tie.Need-put-corner-requires
@@ -36,7 +36,7 @@ put-corner-requires c κs =
     let p1 = c .before .before .before in
     let s = start (p1 .before) in
     let n = length-cell (s .args .table .now) (s .args .slot) in
-    let e = ap (λ (k : ℕ). length (decimal k)) (p1 .before .u32-of .ensures .0) in
+    let e = ap (λ (k : ℕ). length (decimal k)) (p1 .before .state .ensures) in
     (s .pre .0, (omega arith, omega (arith, s .pre .1, n, e, p1 .put-decimal .ensures .next-is, p1 .put-decimal .kept .0)))
 
 put-corner-requires-2 : tie.Need-put-corner-requires-2
@@ -45,7 +45,7 @@ put-corner-requires-2 c κs =
     let p1 = state p2 in
     let s = start (p1 .before) in
     let n = length-cell (s .args .table .now) (s .args .slot) in
-    let e = ap (λ (k : ℕ). length (decimal k)) (p1 .before .u32-of .ensures .0) in (
+    let e = ap (λ (k : ℕ). length (decimal k)) (p1 .before .state .ensures) in (
       s .pre .0,
       (
         omega arith,
@@ -69,7 +69,7 @@ put-byte-requires c κs =
     let p1 = state p2 in
     let s = start (p1 .before) in
     let n = length-cell (s .args .table .now) (s .args .slot) in
-    let e = ap (λ (k : ℕ). length (decimal k)) (p1 .before .u32-of .ensures .0) in (
+    let e = ap (λ (k : ℕ). length (decimal k)) (p1 .before .state .ensures) in (
       omega (
         arith,
         s .pre .1,
@@ -94,11 +94,11 @@ returns c =
     let p2 = lows p3 in
     let p1 = state p2 in
     let s = start (p1 .before) in
-    let one = as-appended (ap decimal (sym (p1 .before .u32-of .ensures .0))) (p1 .put-decimal .ensures) in
+    let one = as-appended (ap decimal (sym (p1 .before .state .ensures))) (p1 .put-decimal .ensures) in
     let three = then-appended _ _ (then-appended _ _ one (p2 .put-corner .ensures)) (p3 .put-corner2 .ensures) in
     as-appended (cell-is (s .args .table .now) (s .args .slot)) (then-appended _ _ three (c .before .before .put-byte .ensures))
 
 pub put-cell-spec : {M : Type 1} → statement M
 put-cell-spec =
     tie.close
-    (tie.spec u32-of-requires put-decimal-requires put-corner-requires put-corner-requires-2 put-byte-requires same-length returns)
+    (tie.spec state-requires put-decimal-requires put-corner-requires put-corner-requires-2 put-byte-requires same-length returns)

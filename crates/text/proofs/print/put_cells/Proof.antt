@@ -40,8 +40,8 @@ put-cell-requires c κs =
       ),
     )
 
-u32-of-requires : tie.Need-u32-of-requires Inv-loop μ-loop
-u32-of-requires c κs = search needs
+next-slot-requires : tie.Need-next-slot-requires Inv-loop μ-loop
+next-slot-requires c κs = search needs
 
 sub-left : tie.Need-sub-left Inv-loop μ-loop
 sub-left c = search needs
@@ -55,12 +55,12 @@ loop-again c =
     let h = p .before .before .loop-test .taken in
     let l = p .before .before .before in
     let t = l .before .before .before .args .table .now in
-    let rest = cellLines (chain (l .loop .left - 1) t (c .u32-of .result)) in (
+    let rest = cellLines (chain (l .loop .left - 1) t (c .next-slot .result)) in (
       p .put-cell .kept .1 .1 .0 ∙ l .loop .inv .0,
       still-to-come _ rest (p .put-cell .ensures)
-          ∙ ap (sets (l .loop .out) (l .loop .at)) (sym (cells-step (l .loop .left) t (l .loop .slot) h (c .u32-of .ensures .0)))
+          ∙ ap (sets (l .loop .out) (l .loop .at)) (sym (cells-step (l .loop .left) t (l .loop .slot) h (c .next-slot .ensures)))
           ∙ l .loop .inv .1,
-      omega (arith, p .put-cell .ensures .next-is, l .loop .inv .2, length-cells-step (l .loop .left) t (l .loop .slot) h (c .u32-of .ensures .0)),
+      omega (arith, p .put-cell .ensures .next-is, l .loop .inv .2, length-cells-step (l .loop .left) t (l .loop .slot) h (c .next-slot .ensures)),
     )
 
 same-length : tie.Need-same-length Inv-loop μ-loop
@@ -79,4 +79,4 @@ returns c =
 pub put-cells-spec : {M : Type 1} → statement M
 put-cells-spec =
     tie.close
-    (tie.spec Inv-loop μ-loop loop-holds put-cell-requires u32-of-requires sub-left loop-less loop-again same-length returns)
+    (tie.spec Inv-loop μ-loop loop-holds put-cell-requires next-slot-requires sub-left loop-less loop-again same-length returns)

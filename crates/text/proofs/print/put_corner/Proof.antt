@@ -1,11 +1,11 @@
 -- Three coordinates, one behind the other: each has room, since all three have. Assumes nothing.
 use mathlib.Core.Path.{_≡_}
 use mathlib.Core.List.{List}
-use Prim.Native.Nat.{ℕ, _+_, _*_}
+use Prim.Native.Nat.{ℕ, _+_}
 use lib.ListN.{length}
-use Rattle.table.specs.Read.{i32At}
+use Rattle.table.specs.Read.{coordinateIn}
 use native.Mathlib.Omega.{arith}
-use Rattle.text.specs.Appended.{cornerAt}
+use Rattle.text.specs.Appended.{cornerIn}
 use Rattle.text.specs.Decimal.{signedDecimal}
 use Rattle.text.proofs.AppendLaws.{as-appended, then-appended}
 use Rattle.text.proofs.ListingLaws.{corner-is, length-corner}
@@ -21,18 +21,17 @@ abbrev first : tie.After-put-coordinate2 → tie.After-put-coordinate
 first c = c .before .before .before .before
 
 -- ---- how long the three are, with a space before each
-abbrev digits : List ℕ → ℕ → ℕ
-digits t i = length (signedDecimal (i32At t i))
+abbrev digits : List ℕ → ℕ → ℕ → ℕ
+digits t slot i = length (signedDecimal (coordinateIn t slot i))
 
-length-at : (t : List ℕ) (slot place : ℕ)
-    → length (cornerAt t slot place) ≡ digits t (32 * slot + place) + digits t (32 * slot + (place + 4)) + digits t (32 * slot + (place + 8)) + 3
-length-at t slot place = length-corner (i32At t (32 * slot + place)) (i32At t (32 * slot + (place + 4))) (i32At t (32 * slot + (place + 8)))
+length-in : (t : List ℕ) (slot i : ℕ) → length (cornerIn t slot i) ≡ digits t slot i + digits t slot (i + 1) + digits t slot (i + 2) + 3
+length-in t slot i = length-corner (coordinateIn t slot i) (coordinateIn t slot (i + 1)) (coordinateIn t slot (i + 2))
 
 -- ---- the needs
 put-coordinate-requires : tie.Need-put-coordinate-requires
 put-coordinate-requires c κs =
     let s = c .before .before .before in
-    let n = length-at (s .args .table .now) (s .args .slot) (s .args .place) in
+    let n = length-in (s .args .table .now) (s .args .slot) (s .args .i) in
     (s .pre .0, (omega (arith, s .pre .1 .0), omega (arith, s .pre .1 .1, n)))
 
 add-put-coordinate : tie.Need-add-put-coordinate
@@ -42,7 +41,7 @@ put-coordinate-requires-2 : tie.Need-put-coordinate-requires-2
 put-coordinate-requires-2 c κs =
     let p1 = c .before .before .before in
     let s = start p1 in
-    let n = length-at (s .args .table .now) (s .args .slot) (s .args .place) in
+    let n = length-in (s .args .table .now) (s .args .slot) (s .args .i) in
     (s .pre .0, (omega (arith, s .pre .1 .0), omega (arith, s .pre .1 .1, n, p1 .put-coordinate .ensures .next-is, p1 .put-coordinate .kept .1 .1 .1 .0)))
 
 add-put-coordinate-2 : tie.Need-add-put-coordinate-2
@@ -53,7 +52,7 @@ put-coordinate-requires-3 c κs =
     let p2 = c .before .before .before in
     let p1 = first p2 in
     let s = start p1 in
-    let n = length-at (s .args .table .now) (s .args .slot) (s .args .place) in (
+    let n = length-in (s .args .table .now) (s .args .slot) (s .args .i) in (
       s .pre .0,
       (
         omega (arith, s .pre .1 .0),

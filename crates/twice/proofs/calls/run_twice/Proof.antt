@@ -7,13 +7,12 @@ use lib.ListN.{length}
 use Rattle.tree.specs.Box.{Box, boxOf, longest}
 use Rattle.tree.specs.Tree.{leaves}
 use Rattle.tree.proofs.CountLaws.{leaves-small}
-use Rattle.table.specs.Placed.{placed}
 use Rattle.table.proofs.Written.{zeroed}
-use Rattle.walk.specs.FunctionsInUse.{settled, cellsOf, recordsOf}
+use Rattle.walk.specs.FunctionsInUse.{settled}
 use Rattle.walk.specs.Counted.{countedOf}
 use Rattle.walk.proofs.CountedLaws.{counted-cells, counted-most}
 use Rattle.walk.proofs.FilledLaws.{HasRoom}
-use Rattle.walk.proofs.CallLaws.{room-refused, room-done}
+use Rattle.walk.proofs.CallLaws.{room-refused, root-placed, room-done}
 use Rattle.twice.proofs.calls.run_twice.Statement.{statement}
 use Rattle.twice.proofs.calls.run_twice.Tie as tie
 
@@ -91,7 +90,7 @@ fill-requires c κs =
     let r = rooted n in
     let s = start r in
     let most = leaves-small (settled (s .args .g)) longest (s .args .depth) (boxOf (r .root .result .b)) (s .pre .1) in
-    (r .root .ensures .1, (n .before .look .ensures, (s .pre .1, (omega arith, omega (arith, most)))))
+    (r .root .ensures .1, (n .before .look .ensures, (omega arith, (s .pre .1, (omega arith, omega (arith, most))))))
 
 add-zero : tie.Need-add-zero
 add-zero c = omega (arith, small (counted (roomy c)))
@@ -124,8 +123,7 @@ returns-2 c =
     let r = rooted (counted e) in
     let a = start r .args in
     let same = ap (λ (x : Box). leaves (settled (a .g)) longest (a .depth) x) (root-is r) in
-    let cells-put = f .fill .ensures .1 (omega (arith, room e .fits, same)) 0
-    ∙ ap (λ (x : Box). placed (a .table .now) 1 2 0 (recordsOf (a .g) (cellsOf (a .g) (a .depth) x))) (root-is r) in
+    let cells-put = root-placed (a .g) (a .depth) (boxOf (a .b)) (a .table .now) (f .fill .ensures .1 (omega (arith, room e .fits, same))) (root-is r) in
     room-done (a .g) (a .depth) (boxOf (a .b)) (a .table .now) (room e) cells-put (z .zero2 .ensures) (h .before .head .ensures) (h .put-head .ensures)
 
 pub run-twice-spec : {M : Type 1} → statement M

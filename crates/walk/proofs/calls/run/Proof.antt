@@ -7,13 +7,12 @@ use lib.ListN.{length, replicate}
 use Rattle.tree.specs.Box.{Box, boxOf, longest}
 use Rattle.tree.specs.Tree.{leaves}
 use Rattle.tree.proofs.CountLaws.{leaves-small}
-use Rattle.table.specs.Placed.{placed}
 use Rattle.table.proofs.Written.{zeroed}
-use Rattle.walk.specs.FunctionsInUse.{settled, cellsOf, recordsOf}
+use Rattle.walk.specs.FunctionsInUse.{settled}
 use Rattle.walk.specs.Counted.{filledOf}
 use Rattle.walk.proofs.CountedLaws.{counted-cells, counted-most}
 use Rattle.walk.proofs.FilledLaws.{HasRoom, done-tells, full-tells}
-use Rattle.walk.proofs.CallLaws.{room-refused, room-done}
+use Rattle.walk.proofs.CallLaws.{room-refused, root-placed, room-done}
 use Rattle.walk.proofs.calls.run.Statement.{statement}
 use Rattle.walk.proofs.calls.run.Tie as tie
 
@@ -69,7 +68,7 @@ fill-requires c κs =
     let r = k .before in
     let s = start r in
     let most = leaves-small (settled (s .args .g)) longest (s .args .depth) (boxOf (r .root .result .b)) (s .pre .1) in
-    (r .root .ensures .1, (k .look .ensures, (s .pre .1, (omega arith, omega (arith, most)))))
+    (r .root .ensures .1, (k .look .ensures, (omega arith, (s .pre .1, (omega arith, omega (arith, most))))))
 
 enum-known-n : tie.Need-enum-known-n
 enum-known-n c = search needs
@@ -130,8 +129,7 @@ returns-2 c =
     let r = rooted f in
     let a = start r .args in
     let same = ap (λ (x : Box). leaves (settled (a .g)) longest (a .depth) x) (root-is r) in
-    let cells-put = f .fill .ensures .1 (omega (arith, room k .fits, same)) 0
-    ∙ ap (λ (x : Box). placed (a .table .now) 1 2 0 (recordsOf (a .g) (cellsOf (a .g) (a .depth) x))) (root-is r) in
+    let cells-put = root-placed (a .g) (a .depth) (boxOf (a .b)) (a .table .now) (f .fill .ensures .1 (omega (arith, room k .fits, same))) (root-is r) in
     room-done (a .g) (a .depth) (boxOf (a .b)) (a .table .now) (room k) cells-put (z .zero2 .ensures) (h .before .head .ensures) (h .put-head .ensures)
 
 pub run-spec : {M : Type 1} → statement M

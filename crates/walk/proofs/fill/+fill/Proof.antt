@@ -141,6 +141,19 @@ upper-lower t c = done-lower t (to-low-done t c)
 abbrev whole : (t : ℕ) → Start t → Box
 whole t s = boxOf (s .args .n .b)
 
+-- ---- what a call asks, by name
+depth-left : (t : ℕ) (s : Start t) → s .args .depth ≤ s .args .limit
+depth-left t s = s .pre .1 .1 .1 .0
+
+limit-most : (t : ℕ) (s : Start t) → s .args .limit ≤ 24
+limit-most t s = s .pre .1 .1 .1 .1 .0
+
+fresh-behind : (t : ℕ) (s : Start t) → s .args .slot < s .args .fresh
+fresh-behind t s = s .pre .1 .1 .1 .1 .1 .0
+
+few : (t : ℕ) (s : Start t) → s .args .fresh + leaves (settled (s .args .g)) longest (s .args .depth) (whole t s) ≤ 8589934592
+few t s = s .pre .1 .1 .1 .1 .1 .1
+
 -- ---- what the step tells
 cell : (t : ℕ) (c : IsCell t) → let s = of-cell t c in AtCell (s .args .g) (s .args .depth) (whole t s) (c .before .step .given .0 .0)
 cell t c =
@@ -191,11 +204,14 @@ fill-returns t c =
     let one = cell t (c .before) .tree .leaves1 in
     (is-full _ _ _ _ _ (omega (arith, one, c .if1 .taken)), λ h. absurd (omega (arith, one, c .if1 .taken)))
 
+fill-sub-put-cell : (t : ℕ) → fill-lts.Need-sub-put-cell (claims t) (fill-at t) fill.Post
+fill-sub-put-cell t c = depth-left t (of-cell t (c .before .before .before .before .before))
+
 fill-put-cell-requires : (t : ℕ) → fill-lts.Need-put-cell-requires (claims t) (fill-at t) fill.Post
 fill-put-cell-requires t c κs =
     let e = c .before .before .before .before in
     let s = of-cell t (e .before) in
-    (within-ticks (s .args .n .b) (s .pre .1 .0 .good), omega (arith, e .if1 .left, s .pre .1 .1 .1 .1 .0))
+    (within-ticks (s .args .n .b) (s .pre .1 .0 .good), omega (arith, e .if1 .left, fresh-behind t s))
 
 fill-cell-requires : (t : ℕ) → fill-lts.Need-cell-requires (claims t) (fill-at t) fill.Post
 fill-cell-requires t c κs = of-cell t (c .before .before .before .before .before .before .before .before) .pre .1 .0 .good
@@ -203,6 +219,9 @@ fill-cell-requires t c κs = of-cell t (c .before .before .before .before .befor
 -- ---- the lower half
 fill-enum-known-step-2 : (t : ℕ) → fill-lts.Need-enum-known-step-2 (claims t) (fill-at t) fill.Post
 fill-enum-known-step-2 t c = search needs
+
+fill-sub-left : (t : ℕ) → fill-lts.Need-sub-left (claims t) (fill-at t) fill.Post
+fill-sub-left t c = halved t (c .before) .left
 
 fill-lower-requires : (t : ℕ) → fill-lts.Need-lower-requires (claims t) (fill-at t) fill.Post
 fill-lower-requires t c κs = of-halved t (c .before) .pre .1 .0 .good
@@ -214,24 +233,18 @@ fill-beside-requires t c κs =
     let r = lower-ready _ (whole t s) _ (s .pre .1 .0 .good) (halved t k .two) (c .lower .ensures) in
     (s .pre .1 .0, (r .0, r .1))
 
-fill-sub-look : (t : ℕ) → fill-lts.Need-sub-look (claims t) (fill-at t) fill.Post
-fill-sub-look t c = halved t (to-halved t c) .left
-
 fill-look-requires : (t : ℕ) → fill-lts.Need-look-requires (claims t) (fill-at t) fill.Post
 fill-look-requires t c κs = c .beside .ensures .1 .good
-
-fill-sub-fill : (t : ℕ) → fill-lts.Need-sub-fill (claims t) (fill-at t) fill.Post
-fill-sub-fill t c = halved t (to-halved t (c .before)) .left
 
 fill-fill-requires : (t : ℕ) → fill-lts.Need-fill-requires (claims t) (fill-at t) fill.Post
 fill-fill-requires t c κs =
     let k = c .before in
     let l = k .before in
     let h = halved t (to-halved t l) in
-    let p = of-lower t l .pre .1 .1 .1 in
+    let s = of-lower t l in
     let sum = h .leaves2 (low-is t l) refl in (
-      omega (arith, of-lower t l .pre .0, h .left),
-      (l .beside .ensures .1, (k .look .ensures, (omega (arith, p .0), (p .1 .0, omega (arith, p .1 .1, sum))))),
+      omega (arith, s .pre .0, h .left),
+      (l .beside .ensures .1, (k .look .ensures, (omega (arith, depth-left t s), (limit-most t s, (fresh-behind t s, omega (arith, few t s, sum)))))),
     )
 
 -- its cells have no room
@@ -256,7 +269,7 @@ fill-returns-2 t c =
 fill-add-mid : (t : ℕ) → fill-lts.Need-add-mid (claims t) (fill-at t) fill.Post
 fill-add-mid t c =
     let l = done-lower t (c .before) in
-    omega (arith, low-cells t (c .before), of-lower t l .pre .1 .1 .1 .1 .1, halved t (to-halved t l) .leaves2 (low-is t l) refl)
+    omega (arith, low-cells t (c .before), few t (of-lower t l), halved t (to-halved t l) .leaves2 (low-is t l) refl)
 
 fill-sub-mid : (t : ℕ) → fill-lts.Need-sub-mid (claims t) (fill-at t) fill.Post
 fill-sub-mid t c = omega (arith, low-cells t (c .before), low-least t (done-lower t (c .before)))
@@ -271,20 +284,14 @@ fill-beside-requires-2 t c κs =
     let r = upper-ready _ (whole t s) _ (s .pre .1 .0 .good) (halved t (to-halved t l) .two) (c .upper .ensures) in
     (s .pre .1 .0, (r .0, r .1))
 
-fill-sub-look-2 : (t : ℕ) → fill-lts.Need-sub-look-2 (claims t) (fill-at t) fill.Post
-fill-sub-look-2 t c = halved t (to-halved t (upper-lower t c)) .left
-
 fill-look-requires-2 : (t : ℕ) → fill-lts.Need-look-requires-2 (claims t) (fill-at t) fill.Post
 fill-look-requires-2 t c κs = c .beside2 .ensures .1 .good
-
-fill-sub-fill-2 : (t : ℕ) → fill-lts.Need-sub-fill-2 (claims t) (fill-at t) fill.Post
-fill-sub-fill-2 t c = halved t (to-halved t (upper-lower t (c .before))) .left
 
 fill-add-fill : (t : ℕ) → fill-lts.Need-add-fill (claims t) (fill-at t) fill.Post
 fill-add-fill t c =
     let d = to-low-done t (c .before .before) in
     let l = done-lower t d in
-    omega (arith, low-cells t d, of-lower t l .pre .1 .1 .1 .1 .1, halved t (to-halved t l) .leaves2 (low-is t l) refl)
+    omega (arith, low-cells t d, few t (of-lower t l), halved t (to-halved t l) .leaves2 (low-is t l) refl)
 
 fill-fill-requires-2 : (t : ℕ) → fill-lts.Need-fill-requires-2 (claims t) (fill-at t) fill.Post
 fill-fill-requires-2 t c κs =
@@ -293,11 +300,20 @@ fill-fill-requires-2 t c κs =
     let d = to-low-done t u in
     let l = done-lower t d in
     let h = halved t (to-halved t l) in
-    let p = of-lower t l .pre .1 .1 .1 in
+    let s = of-lower t l in
     let sum = h .leaves2 (low-is t l) (high-is t u) in
     let n = low-cells t d in (
-      omega (arith, of-lower t l .pre .0, h .left),
-      (u .beside2 .ensures .1, (k .look2 .ensures, (omega (arith, p .0), (omega arith, omega (arith, p .1 .1, sum, n, low-least t l))))),
+      omega (arith, s .pre .0, h .left),
+      (
+        u .beside2 .ensures .1,
+        (
+          k .look2 .ensures,
+          (
+            omega (arith, depth-left t s),
+            (limit-most t s, (omega arith, omega (arith, few t s, sum, n, low-least t l))),
+          ),
+        ),
+      ),
     )
 
 -- its cells have no room
@@ -331,14 +347,15 @@ fill-joined-requires t c κs =
     let u = to-upper t (to-high-filled t c) in
     let d = to-low-done t u in
     let l = done-lower t d in
-    let p = of-lower t l .pre in
-    counted-adds _ _ _ _ (halved t (to-halved t l)) (low-is t l) (high-is t u) (p .1 .0 .good) (p .1 .1 .1 .0) (low-done t d .counted) (high-done t c .counted)
+    let s = of-lower t l in
+    let shallow : s .args .depth ≤ 24 = omega (arith, depth-left t s, limit-most t s) in
+    counted-adds _ _ _ _ (halved t (to-halved t l)) (low-is t l) (high-is t u) (s .pre .1 .0 .good) shallow (low-done t d .counted) (high-done t c .counted)
 
 -- ---- the cell's count and its bytes
 fill-same-length-3 : (t : ℕ) → fill-lts.Need-same-length-3 (claims t) (fill-at t) fill.Post
 fill-same-length-3 t c = c .before .before .before .put-cell .kept .0
 
--- the cells of a box as the table has them
+-- the records of the cells of a box
 abbrev records : Gyroid → ℕ → ℕ → Box → List Record
 records g d k b = recordsOf g (cells (settled g) longest d k b)
 
@@ -351,8 +368,8 @@ fill-returns-4 t c =
     let at = cell t (e .before) in
     let one = at .tree .leaves1 in (
       is-done _ _ _ _ _ (omega (arith, one, e .if1 .left)) (c .cell .ensures ∙ sym (counted-cell _ _ _ _ at)),
-      λ q i. placed-cell (a .t .now) (a .slot) (a .fresh) (a .last) (a .after) (p .put-cell .ensures) (p .before .before .named .ensures) one
-          (records-cell _ _ i _ _ at (p .before .number .ensures)),
+      λ q. placed-cell (a .t .now) (a .slot) (a .fresh) (a .last) (a .after) (p .put-cell .ensures) (p .before .before .before .named .ensures) one
+          (records-cell _ _ _ _ _ at (p .before .number .ensures)),
     )
 
 -- ---- the counts of both halves and their bytes
@@ -376,14 +393,15 @@ fill-returns-5 t c =
     let hd = high-done t (c .before) in
     let sum = h .leaves2 (low-is t l) (high-is t u) in
     let n = low-cells t d in
-    let k = a .depth - 1 in (
+    let k = a .depth - 1 in
+    let j = a .limit - k in
+    let deeper : j ≡ suc (a .limit - a .depth) = omega (arith, depth-left t (of-lower t l), h .left) in (
       is-done _ _ _ _ _ (omega (arith, hd .fits, sum, first .fill .kept .1 .1 .1 .1 .0, n, low-least t l))
           (c .joined .ensures ∙ counted-halves _ _ _ _ h (low-is t l) (high-is t u) (ld .counted) (hd .counted)),
-      λ q i. placed-halves (a .t .now) (a .slot) (a .fresh) (a .last) (a .after) (records (a .g) k (suc i) low) (records (a .g) k (suc i) high)
-          (records-leaves inUse (a .g) k (suc i) low) (records-leaves inUse (a .g) k (suc i) high) (low-least t l)
-          (leaves-least (settled (a .g)) longest k high) sum (ap (λ (m : ℕ). a .fresh + m - 1) n)
-          (records-halves _ _ i _ low high _ h (low-is t l) (high-is t u)) (first .fill .ensures .1 (ld .fits) (suc i))
-          (second .fill2 .ensures .1 (hd .fits) (suc i)),
+      λ q. placed-halves (a .t .now) (a .slot) (a .fresh) (a .last) (a .after) (records (a .g) k j low) (records (a .g) k j high)
+          (records-leaves inUse (a .g) k j low) (records-leaves inUse (a .g) k j high) (low-least t l) (leaves-least (settled (a .g)) longest k high)
+          sum (ap (λ (m : ℕ). a .fresh + m - 1) n) (records-halves _ _ _ j _ low high _ h deeper (low-is t l) (high-is t u))
+          (first .fill .ensures .1 (ld .fits)) (second .fill2 .ensures .1 (hd .fits)),
     )
 
 pub +fill-spec : {M : Type 1} → statement M
@@ -394,14 +412,14 @@ pub +fill-spec : {M : Type 1} → statement M
     (fill-returns t)
     (λ _ _. tt)
     (λ _ _. tt)
+    (fill-sub-put-cell t)
     (fill-put-cell-requires t)
     (fill-cell-requires t)
     (fill-enum-known-step-2 t)
+    (fill-sub-left t)
     (fill-lower-requires t)
     (fill-beside-requires t)
-    (fill-sub-look t)
     (fill-look-requires t)
-    (fill-sub-fill t)
     (fill-fill-requires t)
     (fill-enum-known-low t)
     (fill-enum-told t)
@@ -411,9 +429,7 @@ pub +fill-spec : {M : Type 1} → statement M
     (fill-sub-mid t)
     (fill-upper-requires t)
     (fill-beside-requires-2 t)
-    (fill-sub-look-2 t)
     (fill-look-requires-2 t)
-    (fill-sub-fill-2 t)
     (fill-add-fill t)
     (fill-fill-requires-2 t)
     (fill-enum-known-high t)
