@@ -7,7 +7,7 @@ root, where the harness finds the original:
 
     python3 crates/lines/lines_list.py > crates/lines/data/lines
 
-A record is two numbers of six digits, the bytes of the input and of the output, on a line of their own; then the input,
+A case is two numbers of six digits, the bytes of the input and of the output, on a line of their own; then the input,
 then the output. The exit status is 2 where the original is not at hand.
 """
 import subprocess
@@ -32,11 +32,11 @@ def request(text):
 
 
 def printed(answer):
-    """The harness's answer of a walk, with the line ends of document 01."""
+    """The harness's answer of a walk as document 01 has it printed: a line for each cell, without the depth behind its state."""
     words = answer.split()
     if words[0] == "refused":
         return answer + "\n"
-    rows = [words[:4]] + [words[i:i + 7] for i in range(4, len(words), 7)]
+    rows = [words[:4]] + [words[i:i + 1] + words[i + 2:i + 8] for i in range(4, len(words), 8)]
     return "".join(" ".join(row) + "\n" for row in rows)
 
 
@@ -127,7 +127,7 @@ def answers(texts):
     return [printed(answer) for answer in said.stdout.splitlines()]
 
 
-def record(given, wanted):
+def case(given, wanted):
     sys.stdout.buffer.write(b"%06d %06d\n" % (len(given), len(wanted)) + given + wanted)
 
 
@@ -135,17 +135,17 @@ def main():
     walked = answers(WALKS)
     for text, answer in zip(WALKS, walked, strict=True):
         assert not answer.startswith("refused"), text
-        record(text, answer.encode())
+        case(text, answer.encode())
     refused = [text for _, text in REFUSED]
     for (number, text), answer in zip(REFUSED, answers(refused), strict=True):
         assert answer == f"refused {number}\n", (text, answer)
-        record(text, answer.encode())
+        case(text, answer.encode())
     for text in SPELLINGS:
         assert text != LISTING
-        record(text, walked[0].encode())
+        case(text, walked[0].encode())
     for text in NO_LINES:
         assert text != LISTING
-        record(text, b"refused 14\n")
+        case(text, b"refused 14\n")
 
 
 main()

@@ -7,7 +7,7 @@ conversion of one fraction to its nearest double and the step to a neighbouring 
 
     python3 interval_list.py > data/interval
 
-A record is seven words of eight bytes, little endian: the operation, four words that it takes, the two ends of the answer.
+A case is seven words of eight bytes, little endian: the operation, four words that it takes, the two ends of the answer.
 src/intervals.rt says how they are read.
 """
 import math
@@ -105,7 +105,7 @@ ENDS = [
 ENDS = sorted(set(ENDS + [-x for x in ENDS]))
 
 
-def record(op, words, answer):
+def case(op, words, answer):
     words = list(words) + [0] * (4 - len(words))
     sys.stdout.buffer.write(struct.pack("<7Q", op, *words, bits(answer[0]), bits(answer[1])))
 
@@ -113,7 +113,7 @@ def record(op, words, answer):
 def pair(op, a, b):
     if op == 3 and (0.0 in b or b[0] < 0 < b[1]):
         return
-    record(op, [bits(v) for v in (*a, *b)], PAIRS[op](a, b))
+    case(op, [bits(v) for v in (*a, *b)], PAIRS[op](a, b))
 
 
 def some_double(r):
@@ -143,31 +143,31 @@ def main():
             pair(op, (ENDS[i], ENDS[j]), (ENDS[k], ENDS[r.randrange(k, len(ENDS))]))
     # the steps: both neighbours of each special double and of random patterns
     for x in ENDS + [-0.0, math.inf, -math.inf, math.nan] + [double(r.getrandbits(64)) for _ in range(60)]:
-        record(11, [bits(x), bits(x)], (down(x), up(x)))
+        case(11, [bits(x), bits(x)], (down(x), up(x)))
     # fractions and their nearest doubles; whole numbers and halves are doubles and are stepped all the same
     for _ in range(60):
         n = r.choice([0, 1, -1, OFFSET, -OFFSET, r.randint(-OFFSET, OFFSET), r.randint(-5000, 5000)])
         d = r.choice([1, 2, 3, 1024, 10240, OFFSET, OFFSET - 1, r.randint(1, OFFSET), r.randint(1, 100000)])
         x = rounded(F(n, d))
-        record(12, [n + OFFSET, d], (down(x), up(x)))
-        record(13, [n + OFFSET, d], (x, x))
+        case(12, [n + OFFSET, d], (down(x), up(x)))
+        case(13, [n + OFFSET, d], (x, x))
     # floors, quarter numbers and remainders, also below zero and at the limits
     edges = [0.0, 0.25, 0.5, 0.75, 1.0, 0.49999999999999994, 2.0**49 + 0.5, 2.0**50, 2.0**52, 2.0**53]
     for y in [s * e for s in (1, -1) for e in edges] + [r.uniform(-1e6, 1e6) for _ in range(30)]:
         k = float(math.floor(F(y)))
-        record(14, [bits(y)], (k, k))
+        case(14, [bits(y)], (k, k))
         if abs(y) <= 2.0**50:
             q = float(math.floor(F(rounded(F(rounded(F(y) * 4)) + HALF))))
-            record(15, [bits(y)], (q, q))
+            case(15, [bits(y)], (q, q))
     for q in list(range(-9, 10)) + [OFFSET, -OFFSET, 1 - OFFSET]:
-        record(16, [q + OFFSET], (float(q % 4),) * 2)
+        case(16, [q + OFFSET], (float(q % 4),) * 2)
     # the coefficients, the tails, two_pi
     for i in range(9):
         for op, n in ((17, 2 * i + 1), (18, 2 * i)):
             x = rounded(F((-1) ** i, math.factorial(n)))
-            record(op, [i], (down(x), up(x)))
-    record(19, [], tuple(up(rounded(F(4, 5) ** n / math.factorial(n))) for n in (19, 18)))
-    record(20, [], (double(0x401921FB54442D18), double(0x401921FB54442D19)))
+            case(op, [i], (down(x), up(x)))
+    case(19, [], tuple(up(rounded(F(4, 5) ** n / math.factorial(n))) for n in (19, 18)))
+    case(20, [], (double(0x401921FB54442D18), double(0x401921FB54442D19)))
     # sums and differences that are exact at some ends and rounded at others, and such as overflow
     for op in (0, 1):
         for least in [-1074, -60, 900] * 12:

@@ -1,9 +1,9 @@
 // Replays texts that were answered elsewhere: asks what program `cells` prints of each, and prints how many were seen and how many differ. One
 // that differs is named by its place, counted from 0.
-mod record; // a text of the list and its answer, read and tried
+mod case; // a text of the list and its answer, read and tried
 
+use case::Seen;
 use libc::STDOUT_FILENO;
-use record::Seen;
 
 struct Tally {
     seen: u64,
@@ -69,7 +69,7 @@ fn all(fd: i32) -> Tally {
     let mut turns = u64::MAX;
     let mut t = Tally::none();
     while turns > 0 && t.more {
-        t = t.counted(record::next(fd));
+        t = t.counted(case::next(fd));
         turns -= 1;
     }
     t

@@ -1,6 +1,6 @@
-// The list of answers to the public calls, the original's or document 02's. A record begins with a word of bytes: the call, how many words
+// The list of answers to the public calls, the original's or document 02's. A case begins with a word of bytes: the call, how many words
 // it takes, how many words answer it, the status, the piece. The words follow: doubles by their bits, whole numbers as 2^62 more than
-// themselves. Call 0 takes the 18 entries of the description that the records after it are about.
+// themselves. Call 0 takes the 18 entries of the description that the cases after it are about.
 ghost use Prim.Native.Nat.{_≤_};
 ghost use lib.ListN.{length};
 use crate::tally::Tally;
@@ -214,7 +214,7 @@ fn first_word(s: &[u8]) -> Head
     }
 }
 
-fn record(fd: i32, r: Run) -> Run {
+fn case(fd: i32, r: Run) -> Run {
     let mut s = [0u8; 8];
     let n = io::read_full(fd, &mut s);
     if n == 0 {
@@ -239,7 +239,7 @@ pub(crate) fn all(fd: i32) -> Tally {
     };
     let mut more = true;
     while turns > 0 && more {
-        r = record(fd, r);
+        r = case(fd, r);
         let t = r.tally;
         more = t.more;
         turns -= 1;

@@ -1,4 +1,4 @@
-// The list of the interval layer's answers. A record is seven words: the operation, four words that it takes, and the two ends of its answer.
+// The list of the interval layer's answers. A case is seven words: the operation, four words that it takes, and the two ends of its answer.
 // A number that is no double stands as 2^53 more than itself.
 ghost use Prim.Native.Nat.{_+_, _≤_};
 ghost use lib.ListN.{length};
@@ -103,7 +103,7 @@ fn single(op: u64, x: u64, y: u64) -> Interval {
     }
 }
 
-// Whether the answer to the record at `at` is the one that stands there.
+// Whether the answer to the case at `at` is the one that stands there.
 fn matches(s: &[u8], at: usize) -> bool
     requires { ⌜ at + 56 ≤ length (now s) ⌝ }
 {
@@ -126,7 +126,7 @@ fn matches(s: &[u8], at: usize) -> bool
     same(r.lo, lo) && same(r.hi, hi)
 }
 
-// The records of s, each of 56 bytes.
+// The cases of s, each of 56 bytes.
 fn block(s: &[u8], t: Tally) -> Tally {
     let mut u = t;
     let mut at: usize = 0;

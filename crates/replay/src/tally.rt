@@ -1,4 +1,4 @@
-// How many records were seen and how many differ; one that differs is named by its list and its place, counted from 0.
+// How many cases were seen and how many differ; one that differs is named by its list and its place, counted from 0.
 use libc::STDOUT_FILENO;
 
 pub(crate) struct Tally {
@@ -16,7 +16,7 @@ impl Tally {
         }
     }
 
-    // No more records.
+    // No more cases.
     pub(crate) fn ended(self) -> Tally {
         Tally {
             seen: self.seen,
@@ -25,7 +25,7 @@ impl Tally {
         }
     }
 
-    // One more record seen.
+    // One more case seen.
     pub(crate) fn counted(self, list: &[u8], good: bool) -> Tally {
         let next = std::num::wrapping_add_u64(self.seen, 1);
         if good {

@@ -1,4 +1,4 @@
-// The list of walks over the original's box state or document 02's. A record begins with 27 words, whole numbers as 2^62 more than
+// The list of walks over the original's box state or document 02's. A case begins with 27 words, whole numbers as 2^62 more than
 // themselves: the 18 entries of a description, a box, the depth, the bytes of the table, the status. The bytes that the walk leaves in the
 // table follow, then zeros up to a whole word.
 ghost use Prim.Native.Nat.{_≤_};
@@ -37,7 +37,7 @@ fn set_unwritten(table: &mut [u8]) {
     }
 }
 
-// Whether the walk returns the record's status and leaves these bytes in the table.
+// Whether the walk returns the case's status and leaves these bytes in the table.
 fn leaves(w: [u64; 42], table: &mut [u8], bytes: &[u8]) -> bool {
     set_unwritten(table);
     let d = entries(w);
@@ -64,7 +64,7 @@ fn broken(t: Tally) -> Tally {
     u.ended()
 }
 
-// A record whose table has n bytes.
+// A case whose table has n bytes.
 fn table_of(fd: i32, w: [u64; 42], n: usize, t: Tally) -> Tally
     requires { ⌜ n ≤ 4096 ⌝ }
 {
@@ -76,7 +76,7 @@ fn table_of(fd: i32, w: [u64; 42], n: usize, t: Tally) -> Tally
     t.counted(b"walks", matches(w, &bytes, n))
 }
 
-fn record(fd: i32, t: Tally) -> Tally {
+fn case(fd: i32, t: Tally) -> Tally {
     let words = read_words(fd, 27);
     if words.bytes == 0 {
         return t.ended();
@@ -93,7 +93,7 @@ pub(crate) fn all(fd: i32) -> Tally {
     let mut turns = u64::MAX;
     let mut t = Tally::none();
     while turns > 0 && t.more {
-        t = record(fd, t);
+        t = case(fd, t);
         turns -= 1;
     }
     t

@@ -1,4 +1,4 @@
-// Eight-byte words of a list: what a double, a whole number or an offset number stands for, and how a record's words are read.
+// Eight-byte words of a list: what a double, a whole number or an offset number stands for, and how a case's words are read.
 ghost use Prim.Native.Nat.{_+_, _^_, _≤_};
 ghost use lib.IntN.{natAbs};
 ghost use lib.ListN.{length};
@@ -61,8 +61,8 @@ pub(crate) fn same(x: f64, y: f64) -> bool {
     if x != x { y != y } else { x == y }
 }
 
-// ---- the words of a record
-// As many as a record may have, 18 of a triangle's corners and 24 of derivatives; `bytes` says how many bytes the list still had of them.
+// ---- the words of a case
+// As many as a case may have, 18 of a triangle's corners and 24 of derivatives; `bytes` says how many bytes the list still had of them.
 pub(crate) struct Words {
     pub bytes: usize,
     pub at: [u64; 42],

@@ -169,9 +169,10 @@ fn pieces(call: Call, out: &mut Vec<Request>) {
 }
 
 /// Walks of a box with room to halve: depths and tables at their limits, and every pair of the refusal table's rows broken of which
-/// one at least is the walk's own; and one that no table holds.
+/// one at least is the walk's own; one that no table holds, and the deepest cells.
 fn walks_of(call: Call, out: &mut Vec<Request>) {
     out.push(walks::hopeless());
+    walks::deep(out);
     let c = &mut Chance::new(0, call as u64, 0);
     for base in bases() {
         let mut quiet = quiet(call, base);

@@ -105,14 +105,14 @@ fn bytes(head: [u8; 8], words: &[u64]) -> Vec<u8> {
     head.into_iter().chain(words.iter().flat_map(|word| word.to_le_bytes())).collect()
 }
 
-/// The record of a description; nothing where an entry has no word.
+/// The case of a description; nothing where an entry has no word.
 fn description(d: &Description) -> Option<Vec<u8>> {
     let words: Vec<u64> = d.iter().map(|n| whole((*n).into())).collect::<Option<_>>()?;
     Some(bytes(head([0, 18, 0, 0, 0]), &words))
 }
 
-/// The record of a request; nothing where it or its answer has no words.
-fn record(number: u8, request: &Request) -> Option<Vec<u8>> {
+/// The case of a request; nothing where it or its answer has no words.
+fn case(number: u8, request: &Request) -> Option<Vec<u8>> {
     let given = request.whole().iter().map(|n| whole((*n).into()));
     let given = given.chain(request.doubles().iter().map(|v| Some(double(*v))));
     let mut words: Vec<u64> = given.collect::<Option<_>>()?;
@@ -131,7 +131,7 @@ fn about(c: &mut Chance, d: &Description, requests: u64, out: &mut Vec<u8>) {
     for (number, call) in (1..).zip(CALLS) {
         let arguments = call.shape().whole() + call.shape().doubles() > 0;
         for _ in 0..if arguments { requests } else { 1 } {
-            out.extend(record(number, &cases::about(c, call, *d)).unwrap_or_default());
+            out.extend(case(number, &cases::about(c, call, *d)).unwrap_or_default());
         }
     }
 }
@@ -165,7 +165,7 @@ fn boxed(d: Description, [low, high]: [f64; 2], other: f64, out: &mut Vec<u8>) {
             if matches!(call.shape(), Shape::World | Shape::WorldPiece) {
                 let mut request = Request::new(call, d);
                 request.doubles[..6].copy_from_slice(&[low, high, 0.0, other, 0.0, other]);
-                out.extend(record(number, &request).unwrap_or_default());
+                out.extend(case(number, &request).unwrap_or_default());
             }
         }
     }

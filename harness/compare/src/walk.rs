@@ -1,5 +1,6 @@
 //! The walk of documents 01 and 02 in plain Rust over the original's box state, which is all that the original has of it;
-//! for the primitive surface over document 02's. It makes one pass: a cell is written as the walk comes to it.
+//! for the primitive surface over document 02's. It makes one pass: a cell is written as the walk comes to it, with the
+//! number of halvings that led to it.
 
 use crate::added;
 use reference::Leaf;
@@ -8,8 +9,8 @@ use request::{Answer, Request, SLOT, Walked, unwritten};
 /// A box of whole ticks: three lows, then three highs.
 pub type Bounds = [i64; 6];
 
-const INSIDE: u32 = 1;
-const UNSETTLED: u32 = 3;
+const INSIDE: u8 = 1;
+const UNSETTLED: u8 = 3;
 
 fn spans(bounds: &Bounds) -> [i64; 3] {
     [0, 1, 2].map(|i| bounds[3 + i] - bounds[i])
@@ -31,17 +32,24 @@ fn halves(bounds: &Bounds) -> Option<[Bounds; 2]> {
     (longest > 1).then_some([lower, upper])
 }
 
-/// Gives every cell of the box and its state to `cell`, in walk order, until that answers false, and then looks at no
-/// further box. Answers how many boxes were evaluated; nothing where it was stopped.
-fn walk(leaf: &Leaf, bounds: &Bounds, depth: i64, cell: &mut impl FnMut(u32, &Bounds) -> bool) -> Option<u32> {
-    let state = leaf.state(bounds);
-    let halves = if state == UNSETTLED && depth > 0 { halves(bounds) } else { None };
+/// Gives every cell of a box to `cell`, with its state and its depth, in walk order, until that answers false, and then
+/// looks at no further box. The box itself stands at `depth`; a half stands at one more than its box, and none at more
+/// than `limit`. Answers how many boxes were evaluated; nothing where it was stopped.
+fn walk(
+    leaf: &Leaf,
+    bounds: &Bounds,
+    depth: u8,
+    limit: i64,
+    cell: &mut impl FnMut(u8, u8, &Bounds) -> bool,
+) -> Option<u32> {
+    let state = leaf.state(bounds) as u8;
+    let halves = if state == UNSETTLED && i64::from(depth) < limit { halves(bounds) } else { None };
     match halves {
         Some([lower, upper]) => {
-            let lower = walk(leaf, &lower, depth - 1, cell)?;
-            Some(1 + lower + walk(leaf, &upper, depth - 1, cell)?)
+            let lower = walk(leaf, &lower, depth + 1, limit, cell)?;
+            Some(1 + lower + walk(leaf, &upper, depth + 1, limit, cell)?)
         }
-        None => cell(state, bounds).then_some(1),
+        None => cell(state, depth, bounds).then_some(1),
     }
 }
 
@@ -53,9 +61,10 @@ fn put<const N: usize>(table: &mut [u8], at: usize, numbers: impl IntoIterator<I
 }
 
 /// Writes a cell to its slot, naming the slot after it as the next; false where the table has no such slot.
-fn put_cell(table: &mut [u8], slot: u32, state: u32, bounds: &Bounds) -> bool {
+/// "The state word becomes four bytes: state, depth, and two zeros."
+fn put_cell(table: &mut [u8], slot: u32, state: u8, depth: u8, bounds: &Bounds) -> bool {
     let Some(cell) = table.chunks_exact_mut(SLOT).nth(slot as usize) else { return false };
-    put(cell, 0, [slot + 1, state].map(u32::to_le_bytes));
+    put(cell, 0, [(slot + 1).to_le_bytes(), [state, depth, 0, 0]]);
     put(cell, 8, bounds.map(|end| (end as i32).to_le_bytes()));
     true
 }
@@ -65,10 +74,10 @@ fn put_cell(table: &mut [u8], slot: u32, state: u32, bounds: &Bounds) -> bool {
 pub fn fill(leaf: &Leaf, bounds: &Bounds, depth: i64, table: &mut [u8]) -> u32 {
     table.fill(0);
     let (mut cells, mut solid) = (0_u32, 0);
-    let evaluated = walk(leaf, bounds, depth, &mut |state, bounds| {
+    let evaluated = walk(leaf, bounds, 0, depth, &mut |state, depth, bounds| {
         cells += 1;
         solid += if state == INSIDE { volume(bounds) } else { 0 };
-        put_cell(table, cells, state, bounds)
+        put_cell(table, cells, state, depth, bounds)
     });
     let Some(evaluated) = evaluated else {
         table.fill(0);
@@ -87,7 +96,7 @@ pub fn cells(request: &Request) -> Option<u32> {
         return None;
     }
     let mut cells = 0;
-    walk(&Leaf::new(&request.description)?, &request.whole, request.depth, &mut |_, _| {
+    walk(&Leaf::new(&request.description)?, &request.whole, 0, request.depth, &mut |_, _, _| {
         cells += 1;
         true
     })?;
@@ -141,12 +150,12 @@ mod tests {
         if !reference::AT_HAND {
             return;
         }
-        let said = "2 3 536870912 536870912 1 0 0 0 512 1024 1024 3 512 0 0 1024 1024 1024";
+        let said = "2 3 536870912 536870912 1 1 0 0 0 512 1024 1024 3 1 512 0 0 1024 1024 1024";
         assert_eq!(asked(1, 65536).to_string(), said);
         let numbers: [[u32; 8]; 4] = [
             [1, 2, 3, 536870912, 0, 536870912, 0, 0],
-            [2, 1, 0, 0, 0, 512, 1024, 1024],
-            [0, 3, 512, 0, 0, 1024, 1024, 1024],
+            [2, 1 + 256, 0, 0, 0, 512, 1024, 1024],
+            [0, 3 + 256, 512, 0, 0, 1024, 1024, 1024],
             [0; 8],
         ];
         let bytes: Vec<u8> = numbers.as_flattened().iter().flat_map(|n| n.to_le_bytes()).collect();
@@ -170,7 +179,7 @@ mod tests {
         let request = walks::hopeless();
         let Some(leaf) = Leaf::new(&request.description) else { return };
         let mut come_to = 0;
-        let evaluated = walk(&leaf, &request.whole, request.depth, &mut |_, _| {
+        let evaluated = walk(&leaf, &request.whole, 0, request.depth, &mut |_, _, _| {
             come_to += 1;
             come_to < 100
         });
@@ -217,7 +226,8 @@ mod tests {
         let mut text = format!("{} {} {} {}", head.cells, head.evaluated, head.solid, head.open);
         for cell in table.cells() {
             let bounds = cell.bounds.low.into_iter().chain(cell.bounds.high);
-            text += &bounds.fold(format!(" {}", cell.state as u32), |text, end| format!("{text} {end}"));
+            let marked = format!(" {} {}", cell.state as u32, cell.depth);
+            text += &bounds.fold(marked, |text, end| format!("{text} {end}"));
         }
         assert!(head.cells > 10);
         assert_eq!(text, walked.to_string());

@@ -7,7 +7,7 @@ use crate::{cases, descriptions, walk, walks};
 use request::{Answer, Call, Description, Request, SLOT};
 
 const SEED: u64 = 1;
-/// The longest table of a record: 127 cells.
+/// The longest table of a case: 127 cells.
 const LONGEST: usize = 128 * SLOT;
 /// Walks by chance.
 const CHANCES: usize = 60;
@@ -123,6 +123,13 @@ fn hairs(out: &mut Vec<Request>) {
     out.extend(boxes.map(|(level, whole)| exact(primitive(constant(TICKS, level)), whole, 1)));
 }
 
+/// Cells of depths 1 to 3 in one table, and of all depths to 23 and to 24.
+fn depths(out: &mut Vec<Request>) {
+    out.push(exact(constant(10240, -128), bounds([0; 3], [1024; 3]), 3));
+    let Request { description, whole, .. } = walks::deepest();
+    out.extend([23, 24].map(|depth| exact(description, whole, depth)));
+}
+
 /// Tables about the room that a walk wants, and a walk that none holds.
 fn rooms(out: &mut Vec<Request>) {
     let ramp = ramp(10240, 0, [0, 10240], [-256, 256]);
@@ -188,8 +195,8 @@ fn words(request: &Request) -> Option<Vec<u64>> {
     numbers.map(|n| whole((*n).into())).chain([whole(request.table as i128)]).collect()
 }
 
-/// The record of a walk; nothing where it has none.
-fn record(request: &Request) -> Option<Vec<u8>> {
+/// The case of a walk; nothing where it has none.
+fn case(request: &Request) -> Option<Vec<u8>> {
     let Answer::Walked(walked) = walk::answer(request) else { return None };
     let mut words = words(request).filter(|_| request.table <= LONGEST)?;
     words.push(whole(walked.status.into())?);
@@ -201,7 +208,7 @@ fn record(request: &Request) -> Option<Vec<u8>> {
 
 fn requests() -> Vec<Request> {
     let mut out = Vec::new();
-    for add in [constants, ramps, extremes, rooms, refusals, chances, hairs] {
+    for add in [constants, ramps, extremes, rooms, refusals, chances, hairs, depths] {
         add(&mut out);
     }
     out
@@ -209,13 +216,13 @@ fn requests() -> Vec<Request> {
 
 /// The list.
 pub fn list() -> Vec<u8> {
-    requests().iter().filter_map(record).flatten().collect()
+    requests().iter().filter_map(case).flatten().collect()
 }
 
 #[cfg(test)]
 mod tests {
     use super::*;
-    use std::collections::BTreeMap;
+    use std::collections::{BTreeMap, BTreeSet};
 
     #[test]
     fn every_status_and_depth_comes_up() {
@@ -224,7 +231,7 @@ mod tests {
         }
         let (mut statuses, mut depths) = (BTreeMap::<u32, u32>::new(), BTreeMap::<i64, u32>::new());
         for request in requests() {
-            assert!(record(&request).is_some(), "{request}");
+            assert!(case(&request).is_some(), "{request}");
             let number = walk::answer(&request).refused().unwrap_or(0);
             *statuses.entry(number).or_default() += 1;
             if number == 0 {
@@ -237,6 +244,12 @@ mod tests {
         for depth in (0..8).chain([24]) {
             assert!(depths.get(&depth) > Some(&5), "{depth}: {depths:?}");
         }
+    }
+
+    /// The depths that the cells of a walk have, each once.
+    fn depths_in(request: &Request) -> BTreeSet<u8> {
+        let Answer::Walked(walked) = walk::answer(request) else { panic!("a walk's answer") };
+        walked.table.chunks_exact(SLOT).skip(1).map(|cell| cell[5]).collect()
     }
 
     #[test]
@@ -252,16 +265,30 @@ mod tests {
     }
 
     #[test]
-    fn a_record_is_words_and_then_the_table() {
+    fn three_depths_and_more_in_a_table() {
+        if !reference::AT_HAND {
+            return;
+        }
+        let mut walks = Vec::new();
+        depths(&mut walks);
+        for request in walks {
+            let depths = depths_in(&request);
+            assert_eq!(depths.last().copied().map(i64::from), Some(request.depth), "{request}");
+            assert!(depths.len() >= 3, "{request}");
+        }
+    }
+
+    #[test]
+    fn a_case_is_words_and_then_the_table() {
         if !reference::AT_HAND {
             return;
         }
         let request = Request { table: 97, ..exact(constant(10240, 2048), [0, 0, 0, 1024, 1024, 1024], 1) };
-        let record = record(&request).unwrap();
+        let case = case(&request).unwrap();
         let Answer::Walked(walked) = walk::answer(&request) else { panic!("a walk's answer") };
-        let word = |i: usize| u64::from_le_bytes(record[8 * i..][..8].try_into().unwrap()) as i64 - (1 << 62);
+        let word = |i: usize| u64::from_le_bytes(case[8 * i..][..8].try_into().unwrap()) as i64 - (1 << 62);
         assert_eq!([0, 21, 24, 25, 26].map(word), [10240, 1024, 1, 97, 0]);
-        assert_eq!(record[27 * 8..], [walked.table, vec![0; 7]].concat());
-        assert!(super::record(&Request { table: LONGEST + 1, ..request }).is_none());
+        assert_eq!(case[27 * 8..], [walked.table, vec![0; 7]].concat());
+        assert!(super::case(&Request { table: LONGEST + 1, ..request }).is_none());
     }
 }

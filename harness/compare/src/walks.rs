@@ -112,6 +112,15 @@ pub fn hopeless() -> Request {
     request
 }
 
+/// Few cells, as deep as they go: cos X + cos Y + cos Z comes to the level in this corner alone, so all but the boxes
+/// there are settled, down to cubes of one tick after 24 halvings.
+pub fn deepest() -> Request {
+    let mut request = Request::new(Call::Walk, primitive(PLAIN));
+    (request.description[PERIOD], request.description[START]) = (10240, 3072);
+    (request.whole, request.depth) = ([0, 0, 0, 256, 256, 256], 24);
+    request
+}
+
 /// Tables without room for a cell, for two, and about the room that the walk wants.
 fn rooms(walk: &Request, out: &mut Vec<Request>) {
     let cells = walk::cells(walk).unwrap_or(1) as usize;
@@ -119,6 +128,13 @@ fn rooms(walk: &Request, out: &mut Vec<Request>) {
         for more in [0, 1, 16, 31] {
             out.push(Request { table: slots * SLOT + more, ..*walk });
         }
+    }
+}
+
+/// The deepest cells, and tables about the room that they want.
+pub fn deep(out: &mut Vec<Request>) {
+    for depth in [22, 23, 24] {
+        rooms(&Request { depth, ..deepest() }, out);
     }
 }
 

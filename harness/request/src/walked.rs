@@ -1,4 +1,4 @@
-//! What a walk leaves: its status and its table, read as document 01 lays it out.
+//! What a walk leaves: its status and its table, read as documents 01 and 02 lay it out.
 
 use std::fmt;
 
@@ -46,11 +46,12 @@ impl Walked {
         Some(format!("{cells} {evaluated} {solid} {open}"))
     }
 
-    /// The next slot, then state, lows, highs.
+    /// The next slot, then state, depth, lows, highs.
     fn cell(&self, slot: u32) -> Option<(u32, String)> {
         let at = slot as usize * SLOT;
         let next = u32_at(&self.table, at)?;
-        let mut text = u32_at(&self.table, at + 4)?.to_string();
+        let [state, depth] = number(&self.table, at + 4)?;
+        let mut text = format!("{state} {depth}");
         for i in 0..6 {
             text += &format!(" {}", i32_at(&self.table, at + 8 + 4 * i)?);
         }
@@ -96,9 +97,9 @@ mod tests {
 
     #[test]
     fn text_follows_the_chain() {
-        let cells = [[0, 3, 1, 0, 0, 2, 1, 1], [1, 1, -1, 0, 0, 1, 1, 1]];
+        let cells = [[0, 3 + 256 * 24, 1, 0, 0, 2, 1, 1], [1, 1, -1, 0, 0, 1, 1, 1]];
         let text = walked(&[HEAD.as_slice(), cells.as_flattened()].concat()).to_string();
-        assert_eq!(text, "2 3 7 18446744073709551615 1 -1 0 0 1 1 1 3 1 0 0 2 1 1");
+        assert_eq!(text, "2 3 7 18446744073709551615 1 0 -1 0 0 1 1 1 3 24 1 0 0 2 1 1");
         assert_eq!(Walked { status: 13, ..walked(&HEAD) }.to_string(), "refused 13");
     }
 

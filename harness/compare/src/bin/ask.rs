@@ -15,7 +15,7 @@ const HELP: &str = "ask [--reference]: one request a line on standard input, one
   curvature lipschitz saturated graded planes       no args
   walk                                              args: three lows, three highs, in ticks, depth, the table's bytes
 
-A walk's answer is cells, evaluated, solid, open, then state, lows, highs of each cell.
+A walk's answer is cells, evaluated, solid, open, then state, depth, lows, highs of each cell.
 Answers: the values, `none`, `refused N`, or `error: ..` for a line that is no request (the exit status is then 1).
 With --reference the original answers, or `panicked`, or `unmade` where the input cannot be made into its types;
 to a walk a plain one over the original's box_state. Of the primitive surface (d2 is 2) document 02's lines answer.";

@@ -16,8 +16,8 @@ none-requires c κs = search needs
 loop-holds : tie.Need-loop-holds Inv-loop μ-loop
 loop-holds c = search needs
 
-record-requires : tie.Need-record-requires Inv-loop μ-loop
-record-requires c κs = search needs
+case-requires : tie.Need-case-requires Inv-loop μ-loop
+case-requires c κs = search needs
 
 sub-turns : tie.Need-sub-turns Inv-loop μ-loop
 sub-turns c = search needs
@@ -34,4 +34,4 @@ returns c = search needs
 pub all-spec : {M : Type 1} → statement M
 all-spec =
     tie.close
-    (tie.spec Inv-loop μ-loop none-requires loop-holds record-requires sub-turns loop-less loop-again returns)
+    (tie.spec Inv-loop μ-loop none-requires loop-holds case-requires sub-turns loop-less loop-again returns)

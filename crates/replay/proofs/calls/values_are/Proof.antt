@@ -1,4 +1,4 @@
--- The place stays within the record. Assumes nothing.
+-- The place stays within the case. Assumes nothing.
 use Prim.Native.Nat.{_≤_, _-_}
 use borrow.Author.Needs.{needs}
 use Rattle.replay.proofs.calls.values_are.Statement.{statement}

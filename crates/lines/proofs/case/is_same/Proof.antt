@@ -3,8 +3,8 @@ use mathlib.Core.Path.{_≡_}
 use Prim.Native.Nat.{_≤_, _-_}
 use borrow.Author.Needs.{needs}
 use lib.ListN.{length}
-use Rattle.lines.proofs.record.is_same.Statement.{statement}
-use Rattle.lines.proofs.record.is_same.Tie as tie
+use Rattle.lines.proofs.case.is_same.Statement.{statement}
+use Rattle.lines.proofs.case.is_same.Tie as tie
 
 abbrev Inv-loop : tie.InvT-loop
 Inv-loop a b i₀ i = (i ≤ length a) × (length a ≡ length b)

@@ -2,8 +2,8 @@
 use mathlib.Core.Path.{sym}
 use lib.Seq.{length-take-le}
 use borrow.Author.Needs.{needs}
-use Rattle.lines.proofs.record.filled.Statement.{statement}
-use Rattle.lines.proofs.record.filled.Tie as tie
+use Rattle.lines.proofs.case.filled.Statement.{statement}
+use Rattle.lines.proofs.case.filled.Tie as tie
 
 returns : tie.Need-returns
 returns c = search needs

@@ -2,8 +2,8 @@
 use mathlib.Core.Path.{sym}
 use lib.Seq.{length-take-le}
 use borrow.Author.Needs.{needs}
-use Rattle.lines.proofs.record.is_printed.Statement.{statement}
-use Rattle.lines.proofs.record.is_printed.Tie as tie
+use Rattle.lines.proofs.case.is_printed.Statement.{statement}
+use Rattle.lines.proofs.case.is_printed.Tie as tie
 
 returns : tie.Need-returns
 returns c = search needs

@@ -1,4 +1,4 @@
-// A record of the list: two numbers of six digits, the bytes of a text and of its answer, on a line of their own; then the text, then the answer.
+// A case of the list: two numbers of six digits, the bytes of a text and of its answer, on a line of their own; then the text, then the answer.
 ghost use Prim.Native.Nat.{_<_};
 use text::cells::cells;
 
