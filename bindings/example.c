@@ -50,7 +50,7 @@ static int ask(void) {
     printf("%" PRIu32 " cells\n", number(table + 4));
     for (uint32_t slot = number(table); slot != 0; slot = number(table + slot * GYROID_SLOT)) {
         const uint8_t *cell = table + slot * GYROID_SLOT;
-        printf("state %" PRIu32 ", x from %" PRId32 " to %" PRId32 "\n", number(cell + 4), (int32_t)number(cell + 8),
+        printf("state %d, depth %d, x from %" PRId32 " to %" PRId32 "\n", cell[4], cell[5], (int32_t)number(cell + 8),
                (int32_t)number(cell + 20));
     }
     return 0;

@@ -216,8 +216,9 @@ uint32_t gyroid_fast(const int64_t *description, size_t description_length, cons
  *
  *   slot 0   0 the first cell's slot (u32), 4 cells (u32), 8 boxes evaluated (u32), 12 the tick cubes of the cells
  *            inside (u64), 20 those of the rest of the box (u64), 28 zeros
- *   a cell   0 the next cell's slot, 0 for the last (u32), 4 its state (u32: 1 inside, 2 outside, 3 unsettled), 8
- *            its three lows (i32), 20 its three highs (i32)
+ *   a cell   0 the next cell's slot, 0 for the last (u32), 4 its state (a byte: 1 inside, 2 outside, 3 unsettled), 5
+ *            its depth (a byte: the halvings that led to it, 0 to 24), 6 two zeros, 8 its three lows (i32), 20 its
+ *            three highs (i32)
  *
  * Read the cells along the chain. Those bytes of the table that hold no cell are zero. Besides the description's
  * refusals there are 11, a span below 1, 12, a depth below 0 or above 24, and 13, fewer slots than the cells and one

@@ -67,7 +67,7 @@ pub struct Head {
     pub open: u64,
 }
 
-/// A box that the walk did not halve, and its mark.
+/// A box that the walk did not halve, its mark, and how deep in the walk it stands.
 ///
 /// ```
 /// use gyroid_cells::{Bounds, Cell, Description, State, walk};
@@ -75,13 +75,28 @@ pub struct Head {
 /// let part = Bounds { low: [0; 3], high: [512, 1024, 1024] };
 /// let mut bytes = [0; 64];
 /// let table = walk(&Description::constant(10240, 2048), part, 24, &mut bytes)?;
-/// assert_eq!(table.cells().next(), Some(Cell { state: State::Inside, bounds: part }));
+/// assert_eq!(table.cells().next(), Some(Cell { state: State::Inside, depth: 0, bounds: part }));
 /// # Ok::<(), gyroid_cells::Refusal>(())
 /// ```
 #[derive(Clone, Copy, Debug, PartialEq, Eq, Hash)]
 pub struct Cell {
     /// The mark.
     pub state: State,
+    /// The halvings that led to it: 0 where the walk's box is one cell, 24 at most.
+    ///
+    /// ```
+    /// use gyroid_cells::{Bounds, Description, walk};
+    ///
+    /// let core = Description::constant(10240, -128);
+    /// let mut bytes = [0; 5 * 32];
+    /// let table = walk(&core, Bounds { low: [0; 3], high: [1024; 3] }, 3, &mut bytes)?;
+    ///
+    /// let lines: Vec<String> = table.cells().map(|cell| format!("{} {}", cell.depth, cell.state)).collect();
+    /// println!("{}", lines.join("\n"));
+    /// assert_eq!(lines, ["3 unsettled", "3 outside", "2 outside", "1 outside"]);
+    /// # Ok::<(), gyroid_cells::Refusal>(())
+    /// ```
+    pub depth: u8,
     /// The box, in ticks.
     pub bounds: Bounds,
 }
@@ -207,9 +222,10 @@ impl<'a> Table<'a> {
             return None;
         }
         let place = slot as usize * SLOT;
-        let state = State::try_from(self.u32_at(place + 4)).ok()?;
+        let [state, depth] = self.at(place + 4);
+        let state = State::try_from(u32::from(state)).ok()?;
         let bounds = Bounds { low: self.corner(place + 8), high: self.corner(place + 20) };
-        Some((self.u32_at(place), Cell { state, bounds }))
+        Some((self.u32_at(place), Cell { state, depth, bounds }))
     }
 }
 
@@ -243,7 +259,7 @@ mod tests {
     use std::vec::Vec;
 
     const HEAD: [i32; 8] = [2, 2, 3, 7, 0, -1, -1, 0];
-    const INSIDE: [i32; 8] = [1, 1, -1, 0, 0, 1, 1, 1];
+    const INSIDE: [i32; 8] = [1, 1 + 256 * 24, -1, 0, 0, 1, 1, 1];
     const UNSETTLED: [i32; 8] = [0, 3, 1, 0, 0, 2, 1, 1];
 
     fn bytes(slots: &[[i32; 8]]) -> Vec<u8> {
@@ -264,8 +280,9 @@ mod tests {
         let cells: Vec<Cell> = table.cells().collect();
         assert_eq!((table.len(), table.is_empty()), (2, false));
         assert!((&table).into_iter().eq(cells.iter().copied()));
-        let cell = |state, low, high| Cell { state, bounds: Bounds { low, high } };
-        assert_eq!(cells, [cell(State::Inside, [-1, 0, 0], [1, 1, 1]), cell(State::Unsettled, [1, 0, 0], [2, 1, 1])]);
+        let cell = |state, depth, low, high| Cell { state, depth, bounds: Bounds { low, high } };
+        let along = [cell(State::Inside, 24, [-1, 0, 0], [1, 1, 1]), cell(State::Unsettled, 0, [1, 0, 0], [2, 1, 1])];
+        assert_eq!(cells, along);
     }
 
     #[test]
@@ -287,5 +304,6 @@ mod tests {
         assert!(broken(&[with(HEAD, 1, -1), with(UNSETTLED, 0, 2), INSIDE]));
         assert!(broken(&[HEAD, with(UNSETTLED, 0, 2), INSIDE]));
         assert!(broken(&[HEAD, with(UNSETTLED, 1, 4), INSIDE]));
+        assert!(broken(&[HEAD, with(UNSETTLED, 1, 256 * 3), INSIDE]));
     }
 }

@@ -72,10 +72,10 @@ fn guarded(depth: i64) -> Vec<u8> {
 
 #[test]
 fn the_library_as_it_is_takes_the_state_that_it_finds() {
-    let state = |table: &[u8; 64]| u32::from_le_bytes(table[36..40].try_into().unwrap());
-    assert_eq!(state(&unguarded()), State::Unsettled as u32);
+    let state = |table: &[u8; 64]| State::try_from(u32::from(table[36])).unwrap();
+    assert_eq!(state(&unguarded()), State::Unsettled);
     let (table, _) = under(DEFAULT | DAZ, unguarded);
-    assert_eq!(state(&table), State::Outside as u32);
+    assert_eq!(state(&table), State::Outside);
 }
 
 #[test]

@@ -8,8 +8,8 @@ fn core() -> Description {
     Description::constant(10240, 2048)
 }
 
-fn cell(state: State, low: [i64; 3], high: [i64; 3]) -> Cell {
-    Cell { state, bounds: Bounds { low, high } }
+fn cell(state: State, depth: u8, low: [i64; 3], high: [i64; 3]) -> Cell {
+    Cell { state, depth, bounds: Bounds { low, high } }
 }
 
 /// The refusal's number, and the table, of which every byte was 7.
@@ -25,12 +25,14 @@ fn listing() {
     let mut bytes = [7; 4 * SLOT + 5];
     let table = walk(&core(), CUBE, 1, &mut bytes).unwrap();
     assert_eq!(table.head(), Head { first: 1, cells: 2, evaluated: 3, solid: 536870912, open: 536870912 });
-    let cells =
-        [cell(State::Inside, [0, 0, 0], [512, 1024, 1024]), cell(State::Unsettled, [512, 0, 0], [1024, 1024, 1024])];
+    let cells = [
+        cell(State::Inside, 1, [0, 0, 0], [512, 1024, 1024]),
+        cell(State::Unsettled, 1, [512, 0, 0], [1024, 1024, 1024]),
+    ];
     assert_eq!(table.cells().collect::<Vec<_>>(), cells);
 
     // The bytes may be kept, and read again.
-    assert_eq!(bytes[28..36], [0, 0, 0, 0, 2, 0, 0, 0]);
+    assert_eq!(bytes[28..40], [0, 0, 0, 0, 2, 0, 0, 0, 1, 1, 0, 0]);
     assert!(bytes[3 * SLOT..].iter().all(|byte| *byte == 0));
     assert_eq!(Table::read(&bytes).unwrap().cells().collect::<Vec<_>>(), cells);
 }
@@ -41,7 +43,7 @@ fn the_primitive_surface() {
     let mut bytes = [7; 2 * SLOT];
     let table = walk(&core().with_surface(Surface::Primitive), CUBE, 1, &mut bytes).unwrap();
     assert_eq!(table.head(), Head { first: 1, cells: 1, evaluated: 1, solid: 0, open: 1 << 30 });
-    assert_eq!(table.cells().collect::<Vec<_>>(), [cell(State::Outside, CUBE.low, CUBE.high)]);
+    assert_eq!(table.cells().collect::<Vec<_>>(), [cell(State::Outside, 0, CUBE.low, CUBE.high)]);
 }
 
 #[test]
