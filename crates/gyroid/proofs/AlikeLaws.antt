@@ -72,7 +72,7 @@ one-tick {x} {y} h a b = record {
   value = ≈F-trans (a .value) (≈F-sym (b .value));
 }
 
-point-same : {k : ℕ} {x y : Float} → Same k x y → SameEnds k (point x) (point y)
+pub point-same : {k : ℕ} {x y : Float} → Same k x y → SameEnds k (point x) (point y)
 point-same s = record { lo = s; hi = s }
 
 -- the greater of two
@@ -86,7 +86,7 @@ greatest-most {k} {a} {b} {c} {d} p q =
     greatest-one a b (λ z. value z ≤F value (greatest c d))
     (≤F-trans (≈F-le (p .value)) (greatest-left c d f g)) (≤F-trans (≈F-le (q .value)) (greatest-right c d f g))
 
-greatest-same : {k : ℕ} {a b c d : Float} → Same k a c → Same k b d → Same k (greatest a b) (greatest c d)
+pub greatest-same : {k : ℕ} {a b c d : Float} → Same k a c → Same k b d → Same k (greatest a b) (greatest c d)
 greatest-same {k} {a} {b} {c} {d} p q = record {
   left = greatest-one a b (Small k) (p .left) (q .left);
   right = greatest-one c d (Small k) (p .right) (q .right);
@@ -114,6 +114,24 @@ mid-tick-small : (X : Interval) {m n : ℤ} → Within 1048576 m → Within 1048
 mid-tick-small X {m} {n} h k a b =
     let (f, e) = mid-tick X h k a b in
     small-more 10 11 (mid X) (lit≤ tt) (exact-small 10 11 (m +ℤ n) (mid X) f e (within-add h k .abs))
+
+-- ---- the second-order term is made of products of two radii
+module _ (ar : Arithmetic) (r s : List Interval) (same : (i : ℕ) → i < 3 → SameEnds 13 (boxAt r i) (boxAt s i)) where
+  product-same : (i j : ℕ) → T (leb (suc i) 3) → T (leb (suc j) 3) → product (boxAt r i) (boxAt r j) ≡ product (boxAt s i) (boxAt s j)
+  product-same i j t u = mul-same (same i (leb→le (suc i) 3 t)) (same j (leb→le (suc j) 3 u))
+
+  square-same : (i : ℕ) → T (leb (suc i) 3) → square (boxAt r i) ≡ square (boxAt s i)
+  square-same i t = square-is (boxAt r i) ∙ product-same i i t t ∙ sym (square-is (boxAt s i))
+
+  bracket-same : (f : Surface) → bracketAt ar f (boxAt r 0) (boxAt r 1) (boxAt r 2) ≡ bracketAt ar f (boxAt s 0) (boxAt s 1) (boxAt s 2)
+  unfolding bracketAt
+  bracket-same Surface.Network =
+      cc (square-same 0 tt, square-same 1 tt, square-same 2 tt, product-same 0 1 tt tt, product-same 1 2 tt tt, product-same 2 0 tt tt)
+  bracket-same Surface.Primitive = cc (square-same 0 tt, square-same 1 tt, square-same 2 tt)
+
+  pub second-alike : (f : Surface) (k2 : Interval) → secondOrder ar f k2 r ≡ secondOrder ar f k2 s
+  unfolding secondOrder
+  second-alike f k2 = ap (product k2) (bracket-same f)
 
 -- ---- a box and that of its ticks
 module _
@@ -187,24 +205,8 @@ module _
     radii-same = three (λ i. SameEnds 13 (boxAt (radii ar w) i) (boxAt (radii ar v) i))
         (point-same (radius-same 0 (lit< tt))) (point-same (radius-same 1 (lit< tt))) (point-same (radius-same 2 (lit< tt)))
 
-    -- ---- the second-order term is made of products of two radii
-    product-same : (i j : ℕ) → T (leb (suc i) 3) → T (leb (suc j) 3)
-        → product (boxAt (radii ar w) i) (boxAt (radii ar w) j) ≡ product (boxAt (radii ar v) i) (boxAt (radii ar v) j)
-    product-same i j s t = mul-same (radii-same i (leb→le (suc i) 3 s)) (radii-same j (leb→le (suc j) 3 t))
-
-    square-same : (i : ℕ) → T (leb (suc i) 3) → square (boxAt (radii ar w) i) ≡ square (boxAt (radii ar v) i)
-    square-same i t = square-is (boxAt (radii ar w) i) ∙ product-same i i t t ∙ sym (square-is (boxAt (radii ar v) i))
-
-    bracket-same : (f : Surface) → bracketAt ar f (boxAt (radii ar w) 0) (boxAt (radii ar w) 1) (boxAt (radii ar w) 2)
-        ≡ bracketAt ar f (boxAt (radii ar v) 0) (boxAt (radii ar v) 1) (boxAt (radii ar v) 2)
-    unfolding bracketAt
-    bracket-same Surface.Network =
-        cc (square-same 0 tt, square-same 1 tt, square-same 2 tt, product-same 0 1 tt tt, product-same 1 2 tt tt, product-same 2 0 tt tt)
-    bracket-same Surface.Primitive = cc (square-same 0 tt, square-same 1 tt, square-same 2 tt)
-
     second-same : (f : Surface) (k2 : Interval) → secondOrder ar f k2 (radii ar w) ≡ secondOrder ar f k2 (radii ar v)
-    unfolding secondOrder
-    second-same f k2 = ap (product k2) (bracket-same f)
+    second-same f k2 = second-alike ar (radii ar w) (radii ar v) radii-same f k2
 
     -- ---- the first-order term, of products of a size and a radius. The gradient that is found is at most 2 ^ 100 in size, and so is the slope
     module _ (level : Interval) (slope : List Interval) {s : ℕ → Fraction} (slope-in : (i : ℕ) → i < 3 → In 100 (s i) (boxAt slope i)) where

@@ -22,8 +22,10 @@ use Rattle.gyroid.specs.declared.Residual.the-variants.{None}
 use Rattle.gyroid.specs.Refusals.{endsWithin, greatestDouble, allFinite}
 use Rattle.gyroid.specs.Turn.{turn}
 use Rattle.gyroid.specs.Jet.{wavesOf, waves, jetOf, jet}
-use Rattle.gyroid.specs.Residual.{centre, radii, secondOrder, held, expanded, expansion, levelAt, residualOn, residualBy, residual, stateOf, boxState}
-use Rattle.gyroid.specs.Parts.{sharesBy, shares, noPart, partOf, part, centreLevel, aboutOn, aboutAt, aboutBy, levelAbout, joinedAbout, lessRange, joinedOf, joined}
+use Rattle.gyroid.specs.Residual.{centre, radius, radii, secondOrder, held, expanded, expansion, levelAt}
+use Rattle.gyroid.specs.Residual.{residualOn, residualBy, residual, stateOf, boxState}
+use Rattle.gyroid.specs.Parts.{sharesBy, shares, noPart, partOf, part, centreLevel, aboutOn, aboutAt, aboutBy}
+use Rattle.gyroid.specs.Parts.{levelAbout, joinedAbout, lessRange, joinedOf, joined}
 use Rattle.gyroid.proofs.InfiniteLaws.{none-residual}
 
 -- ---- all three parts found
@@ -43,7 +45,16 @@ module _ (ar : Arithmetic) where
   abbrev partBy : Bool → Turn → Gyroid → ℕ → Interval → Part
   partBy q t g i b = cond (not q) noPart (partOf ar t (g .intervals) i b)
 
-  -- ---- the shares of a part that is found
+  -- ---- the radius and the shares of a part that is found
+  pub radius-found : (g : Gyroid) (i : ℕ) (b : Interval) → T (part ar g i b .found) → part ar g i b .radius ≡ radius ar b
+  unfolding part
+  radius-found g i b = go (endsWithin greatestDouble b) (turn ar g (product (point (mid b)) (g .turns)))
+    where
+      go : (q : Bool) (t : Turn) → T (partBy q t g i b .found) → partBy q t g i b .radius ≡ radius ar b
+      go true (Turn.Found s c) u = refl
+      go true Turn.None u = absurd u
+      go false t u = absurd u
+
   shares-found : (g : Gyroid) (i : ℕ) (b : Interval) → T (part ar g i b .found) → part ar g i b .shares ≡ shares ar (g .intervals) i b (point (mid b))
   unfolding part
   shares-found g i b = go (endsWithin greatestDouble b) (turn ar g (product (point (mid b)) (g .turns)))

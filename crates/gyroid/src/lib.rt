@@ -8,6 +8,9 @@ pub mod expand; // the second-order expansion over a box
 pub mod parts; // what one axis of a box gives to the residual, and the three joined
 mod residuals; // the residual, and the state that it gives a box
 pub mod floats; // doubles that are not infinite
+pub mod numbers; // intervals and parts in lent numbers
+pub mod lent; // what a box's state takes of a leaf, in lent numbers
+pub mod near; // the state of a box whose parts stand in lent numbers
 
 use grade::Grade;
 use grade::GradeDef;

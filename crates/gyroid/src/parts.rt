@@ -1,4 +1,4 @@
-// `residual` one axis at a time: a halving renews one part of three.
+// `residual` one axis at a time: what an axis gives depends on the side of the box there alone, so that a walk can remember it.
 ghost use mathlib.Core.Path.{_≡_};
 ghost use Prim.Native.Nat.{_<_};
 ghost use Rattle.gyroid.specs.Residual.{stateOf};
@@ -79,7 +79,7 @@ impl Part {
 }
 
 // t at the centre of a box that is one piece, m being what it is without the ends.
-fn held_on(piece: Piece, m: Interval) -> Interval
+pub fn held_on(piece: Piece, m: Interval) -> Interval
     ensures { λ r. ⌜ r ≡ heldOn piece m ⌝ }
 {
     match piece {

@@ -14,7 +14,7 @@ use Rattle.exact.proofs.Fraction.{≤F-antisym, ≈F-refl, ≈F-le, ≈F-ge, su
 use Rattle.exact.proofs.FractionSize.{equal-same}
 use Rattle.interval.specs.declared.Interval.{Interval}
 use Rattle.interval.specs.Step.{nextUp, nextDown}
-use Rattle.interval.specs.Interval.{Arithmetic, Wide, Narrow, least, greatest, outward, exactDifference, stepDown, stepUp, difference, product}
+use Rattle.interval.specs.Interval.{Arithmetic, Wide, Narrow, point, least, greatest, outward, exactDifference, stepDown, stepUp, difference, product}
 use Rattle.interval.specs.Encloses.{value, Small}
 use Rattle.interval.proofs.Small.{small-finite, small-more}
 use Rattle.interval.proofs.SmallRounding.{up-small, down-small}
@@ -137,16 +137,14 @@ same-ends X f g = record { lo = same (X .lo) f; hi = same (X .hi) g }
 finite-same : (k : ℕ) (x y : Float) → Small k x → Small k y → finite x ≡ finite y
 finite-same k x y f g = equal-tests (finite x) (finite y) (λ _. small-finite k y g) (λ _. small-finite k x f)
 
--- ---- a difference. An exact end is not stepped, and keeps the sign of its zero: the ends are the same in value
-module _ (k : ℕ) (K : suc k ≤ 1022) {x y v w : Float} (p : Same k x v) (q : Same k y w) where
+-- ---- two differences of one value. An exact end is not stepped, and keeps the sign of its zero: the ends are the same in value
+module _ (k : ℕ) (K : suc k ≤ 1022) (x y v w : Float) (sx : Small k x) (sy : Small k y) (sv : Small k v) (sw : Small k w)
+    (exact : value x -F value y ≈F value v -F value w) where
   a : Candidate (suc k) (sub binary64 x y) (value x -F value y)
-  a = difference-candidate k K x y (p .left) (q .left)
+  a = difference-candidate k K x y sx sy
 
   b : Candidate (suc k) (sub binary64 v w) (value v -F value w)
-  b = difference-candidate k K v w (p .right) (q .right)
-
-  exact : value x -F value y ≈F value v -F value w
-  exact = sub-congF (p .value) (q .value)
+  b = difference-candidate k K v w sv sw
 
   both : Candidates (sub binary64 x y) (sub binary64 v w)
   both = candidates (a .rounds) (b .rounds) exact
@@ -160,7 +158,7 @@ module _ (k : ℕ) (K : suc k ≤ 1022) {x y v w : Float} (p : Same k x v) (q : 
 
   test-same : exactDifference x y ≡ exactDifference v w
   unfolding exactDifference
-  test-same = λ i. finite-same k x v (p .left) (p .right) i && finite-same k y w (q .left) (q .right) i
+  test-same = λ i. finite-same k x v sx sv i && finite-same k y w sy sw i
       && (finite-same (suc k) (sub binary64 x y) (sub binary64 v w) (a .small) (b .small) i && equal-same values exact i)
 
   unstepped : Same (suc (suc k)) (sub binary64 x y) (sub binary64 v w)
@@ -202,9 +200,18 @@ module _ (k : ℕ) (K : suc k ≤ 1022) {x y v w : Float} (p : Same k x v) (q : 
 pub sub-same : (ar : Arithmetic) {k : ℕ} {X Y U W : Interval} → T (leb (suc k) 1022) → SameEnds k X U → SameEnds k Y W
     → SameEnds (suc (suc k)) (difference ar X Y) (difference ar U W)
 unfolding difference
-sub-same ar {k} t h g =
+sub-same ar {k} {X} {Y} {U} {W} t h g =
     let K = leb→le (suc k) 1022 t in
-    record { lo = low-same k K (h .lo) (g .hi) ar; hi = high-same k K (h .hi) (g .lo) ar }
+    record {
+      lo = low-same k K (X .lo) (Y .hi) (U .lo) (W .hi) (h .lo .left) (g .hi .left) (h .lo .right) (g .hi .right) (sub-congF (h .lo .value) (g .hi .value)) ar;
+      hi = high-same k K (X .hi) (Y .lo) (U .hi) (W .lo) (h .hi .left) (g .lo .left) (h .hi .right) (g .lo .right) (sub-congF (h .hi .value) (g .lo .value)) ar;
+    }
+
+-- the high ends of two differences of points
+pub apart-same : (ar : Arithmetic) {k : ℕ} (x y v w : Float) → T (leb (suc k) 1022) → Small k x → Small k y → Small k v → Small k w
+    → value x -F value y ≈F value v -F value w → Same (suc (suc k)) (difference ar (point x) (point y) .hi) (difference ar (point v) (point w) .hi)
+unfolding difference
+apart-same ar {k} x y v w t sx sy sv sw e = high-same k (leb→le (suc k) 1022 t) x y v w sx sy sv sw e ar
 
 -- ---- a product steps
 module _ {j k : ℕ} {X Y U W : Interval} (h : SameEnds j X U) (g : SameEnds k Y W) where
