@@ -1,7 +1,6 @@
 // `residual` one axis at a time: what an axis gives depends on the side of the box there alone, so that a walk can remember it.
 ghost use mathlib.Core.Path.{_≡_};
 ghost use Prim.Native.Nat.{_<_};
-ghost use Rattle.gyroid.specs.Residual.{stateOf};
 ghost use Rattle.gyroid.specs.Parts.{noShares, noPart, heldOn};
 ghost use Rattle.gyroid.specs.FunctionsInUse.{expansion, shares, part, aboutAt, levelAbout, joinedAbout, joinedOf, joined};
 use crate::Gyroid;
@@ -9,7 +8,6 @@ use crate::LevelAbout;
 use crate::Part;
 use crate::Residual;
 use crate::Shares;
-use crate::State;
 use crate::Surface;
 use crate::Turn;
 use crate::expand::about_centre;
@@ -202,22 +200,6 @@ fn joined_of(
         return held(v.sub(about.range));
     }
     held(v)
-}
-
-// The state of that box. A walk passes these, and not the leaf, which is larger.
-pub fn joined_state(
-    surface: Surface,
-    levels: GradeIntervals,
-    level: Interval,
-    k: Interval,
-    k2: Interval,
-    x: Part,
-    y: Part,
-    z: Part,
-) -> State
-    ensures { λ r. ⌜ r ≡ stateOf (joinedOf surface levels level k k2 x y z) ⌝ }
-{
-    joined_of(surface, levels, level, k, k2, x, y, z).state()
 }
 
 impl Gyroid {

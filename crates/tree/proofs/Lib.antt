@@ -2,7 +2,6 @@
 -- boxes of ticks: spans, halves, the longest span, the number of tick cubes
 pub mod Spans
 pub mod HalfLaws
-pub mod BesideLaws
 pub mod LongestLaws
 pub mod VolumeLaws
 -- the box that the code holds

@@ -1,5 +1,4 @@
 pub mod Box
-pub mod Beside
 pub mod Tree
 pub mod InTicks
 pub mod Cells

@@ -3,9 +3,12 @@ ghost use mathlib.Core.Path.{_≡_};
 ghost use Prim.Native.Nat.{_≤_};
 ghost use lib.ListN.{length};
 ghost use Rattle.tree.specs.Box.{Good, boxOf};
+ghost use Rattle.gyroid.specs.Numbers.{Lendable};
 ghost use Rattle.walk.specs.InUse.{roomRefusal, roomTable, walkNumber, walkTable};
 use gyroid::Description;
 use gyroid::Gyroid;
+use gyroid::lent::numbers_of;
+use memory::Places;
 use table::put::put_head;
 use table::put::zero;
 use tree::ShiftedBox;
@@ -16,19 +19,35 @@ use walk::fill::fill;
 
 // Of a compiled leaf and an accepted box and depth.
 fn run_twice(g: Gyroid, b: ShiftedBox, depth: usize, table: &mut [u8]) -> u32
+    requires { ⌜ Lendable g ⌝ }
     requires { ⌜ Good (boxOf b) ⌝ }
     requires { ⌜ depth ≤ 24 ⌝ }
     ensures answer { λ r. ⌜ r ≡ roomRefusal g depth (boxOf b) (length (now (table .entry))) ⌝ }
     ensures left { λ _. ⌜ now (table .exit) ≡ roomTable g depth (boxOf b) (length (now (table .entry))) ⌝ }
 {
-    let root = Node::root(g, b);
-    let step = root.look(depth);
-    let n = count(g, root, step, depth);
+    let leaf = numbers_of(g);
+    let mut keys = [0usize; 480];
+    let mut parts = [0.0f64; 1984];
+    let p = Places::root();
+    let root = Node { b, p };
+    let n = count(&leaf, &mut keys, &mut parts, root, depth);
     if table.len() / 32 < n.cells + 1 {
         zero(table, 0);
         return 13;
     }
-    fill(g, root, step, depth, table, 1, 2, true, 0, depth);
+    fill(
+        &leaf,
+        &mut keys,
+        &mut parts,
+        root,
+        depth,
+        table,
+        1,
+        2,
+        true,
+        0,
+        depth,
+    );
     zero(table, 32 * (n.cells + 1));
     put_head(table, n.head(b));
     0

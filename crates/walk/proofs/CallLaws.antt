@@ -33,6 +33,8 @@ use Rattle.tree.specs.Tree.{leaves, cells}
 use Rattle.tree.proofs.HalfLaws.{by-axis}
 use Rattle.tree.proofs.TickLaws.{ticks-good}
 use Rattle.tree.proofs.CountLaws.{length-cells}
+use Rattle.gyroid.specs.Numbers.{Lendable}
+use Rattle.gyroid.proofs.LentLaws.{leaf-lendable}
 use Rattle.table.specs.declared.Head.{Head}
 use Rattle.table.specs.Table.{Record, headBytes, tableBytes}
 use Rattle.table.specs.Placed.{placed}
@@ -147,6 +149,10 @@ module _ (d : Description) (lo hi : List ℤ) {D : ℤ} {m : Compiled} (f : SFit
 
     pub depth-small : natAbs (toZ w64 (ofZ w64 D)) ≤ 24
     depth-small = subst⁻¹ (λ (z : ℤ). natAbs z ≤ 24) (back {x = D} f) (t .depth-most)
+
+    -- the leaf may be lent
+    pub made-lendable : Lendable (m .leaf)
+    made-lendable = subst⁻¹ Lendable (leaf-is d made (t .described)) (leaf-lendable d)
 
     -- what the walk behind the refusals says
     module _ {b : Box} (box : b ≡ boxFrom lo hi) (len : ℕ) where

@@ -1,11 +1,11 @@
 -- The laws of the walk. Assumes nothing.
-mod PartLaws
 mod StepLaws
 mod RecordLaws
 -- what is counted, what the writer answers, and what a walk returns and leaves: for this one and for others
 pub mod CountedLaws
 pub mod FilledLaws
 pub mod CallLaws
+pub mod SameLaws
 pub mod EndLaws
 pub mod DemandLaws
 -- what demand 3 supposes is what no refusal leaves, both ways

@@ -15,7 +15,7 @@ use Rattle.tree.proofs.LongestLaws.{fair-longest}
 use Rattle.walk.specs.declared.Step.{Step}
 use Rattle.walk.specs.Walk.{isSettled}
 use Rattle.walk.specs.FunctionsInUse.{stateAt, settled}
-use Rattle.walk.specs.Carried.{stepOf}
+use Rattle.walk.specs.Step.{stepAt}
 
 true-false : {A : Type 0} → true ≡ false → A
 true-false e = let z : _≡_ {A = ℕ} 0 1 = ap (λ (t : Bool). cond t 0 1) e in absurd (omega arith)
@@ -48,9 +48,9 @@ module _ (g : Gyroid) where
   cell-by true d b s e f = record { state = cc; tree = ended d b e }
   cell-by false d b s e f = let z : _≡_ {A = ℕ} 0 1 = cc in absurd (omega arith)
 
-  pub at-cell : (d : ℕ) (b : Box) (s : State) {r : State} → r ≡ stateAt g b → stepOf r d b ≡ Step.Cell s → AtCell d b s
-  unfolding stepOf
-  at-cell d b s own e = cell-by (ends d b) d b s refl (ap (λ (r : State). stepOf r d b) (sym own) ∙ e)
+  pub at-cell : (d : ℕ) (b : Box) (s : State) → stepAt g d b ≡ Step.Cell s → AtCell d b s
+  unfolding stepAt
+  at-cell d b s e = cell-by (ends d b) d b s refl e
 
   -- ---- a box that is halved on the axis a, its halves being l and h
   pub record AtHalves (d : ℕ) (b : Box) (a : Axis) : Type 0 where
@@ -86,6 +86,6 @@ module _ (g : Gyroid) where
       let (p, q) = untested (isSettled (stateAt g b)) (eqb d 0) (oneCube b) e in
       subst (AtHalves d b) axis (halves-of d b good (positive d p) q)
 
-  pub at-halves : (d : ℕ) (b : Box) (a : Axis) {r : State} → Good b → r ≡ stateAt g b → stepOf r d b ≡ Step.Halves a → AtHalves d b a
-  unfolding stepOf
-  at-halves d b a good own e = halves-by (ends d b) d b a good refl (ap (λ (r : State). stepOf r d b) (sym own) ∙ e)
+  pub at-halves : (d : ℕ) (b : Box) (a : Axis) → Good b → stepAt g d b ≡ Step.Halves a → AtHalves d b a
+  unfolding stepAt
+  at-halves d b a good e = halves-by (ends d b) d b a good refl e

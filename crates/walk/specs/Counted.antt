@@ -1,17 +1,21 @@
 -- What is counted of a tree, and what the writer answers. The walk's definitions do not see it. Definitions only; assumes nothing.
-use mathlib.Core.Bool.{cond}
-use Prim.Native.Nat.{ℕ, _+_, _-_, _≤_}
+use mathlib.Core.Path.{_≡_}
+use mathlib.Core.Bool.{Bool, cond}
+use mathlib.Core.List.{List}
+use Prim.Native.Nat.{ℕ, _+_, _-_, _/_, _≤_}
+use lib.ListN.{length}
 use lib.Dec.{leb}
 use Rattle.gyroid.specs.declared.Gyroid.{Gyroid}
 use Rattle.gyroid.specs.declared.State.{State}
 use Rattle.tree.specs.Box.{Box, longest, volume}
-use Rattle.tree.specs.Tree.{leaves}
+use Rattle.tree.specs.Tree.{leaves, cells}
 use Rattle.table.specs.declared.Head.{Head}
+use Rattle.table.specs.Placed.{placed}
 use Rattle.walk.specs.declared.Counted.{Counted}
 use Rattle.walk.specs.declared.Filled.{Filled}
 use Rattle.walk.specs.declared.Filled.the-variants.{Done, Full}
 use Rattle.walk.specs.Walk.{isInside}
-use Rattle.walk.specs.FunctionsInUse.{settled, evaluatedOf, solidOf}
+use Rattle.walk.specs.FunctionsInUse.{settled, evaluatedOf, solidOf, recordsOf}
 
 -- of the tree of a box to the depth d
 unfoldable pub countedOf : Gyroid → ℕ → Box → Counted
@@ -38,3 +42,9 @@ pub record Adds (l h : Counted) : Type 0 where
 -- the writer's answer: the cells but the first go to the slots from `fresh` on, of a table of `slots` slots
 unfoldable pub filledOf : Gyroid → ℕ → Box → ℕ → ℕ → Filled
 filledOf g d b fresh slots = cond (leb (fresh + leaves (settled g) longest d b) (slots + 1)) (Done (countedOf g d b)) Full
+
+-- what the writer leaves of the bytes t where they hold all cells: those of the box, whose depth is `limit` less d, the first in `slot`, the others
+-- from `fresh` on, the last naming `after` if it is the last of all
+abbrev pub Written : Gyroid → List ℕ → ℕ → Box → ℕ → ℕ → Bool → ℕ → ℕ → List ℕ → Type 0
+Written g t d b slot fresh last after limit u = fresh + leaves (settled g) longest d b ≤ length t / 32 + 1
+    → u ≡ placed t slot fresh (cond last after (fresh + leaves (settled g) longest d b - 1)) (recordsOf g (cells (settled g) longest d (limit - d) b))

@@ -1,6 +1,6 @@
 pub mod Walk
 pub mod Demand
-pub mod Carried
+pub mod Step
 pub mod Counted
 -- both at the arithmetic in use
 pub mod InUse

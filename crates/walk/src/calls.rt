@@ -1,22 +1,17 @@
 // The public call `walk`: it compiles its description, refuses by document 01's numbers and writes the cells as it comes to them; where they
 // outgrow the table it leaves every byte zero. It keeps nothing.
 ghost use mathlib.Core.Path.{_≡_};
-ghost use Prim.Native.Nat.{_≤_};
 ghost use lib.IntN.{natAbs};
 ghost use lib.ListN.{length};
-ghost use Rattle.tree.specs.Box.{Good, boxOf, boxFrom};
+ghost use Rattle.tree.specs.Box.{boxFrom};
 ghost use Rattle.walk.specs.Walk.{spans, depths, entryRefusal};
-ghost use Rattle.walk.specs.InUse.{roomRefusal, roomTable, walkNumber, walkTable, Supposed, Demand};
-use crate::Filled;
-use crate::Node;
-use crate::fill::fill;
+ghost use Rattle.walk.specs.InUse.{walkNumber, walkTable, Supposed, Demand};
+use crate::run::run;
 use grade::limits::ticks;
 use grade::refusals::or_else;
 use grade::refusals::refused;
 use gyroid::Description;
 use gyroid::Gyroid;
-use table::put::put_head;
-use table::put::zero;
 use tree::ShiftedBox;
 
 // Whether every span is at least 1.
@@ -40,24 +35,6 @@ pub fn entries(description: u32, lo: [i64; 3], hi: [i64; 3], depth: i64) -> u32
     let short = refused(!spans(lo, hi), 11);
     let deep = refused(!depths(depth), 12);
     or_else(limits, or_else(description, or_else(short, deep)))
-}
-
-// Of a compiled leaf and an accepted box and depth.
-fn run(g: Gyroid, b: ShiftedBox, depth: usize, table: &mut [u8]) -> u32
-    requires { ⌜ Good (boxOf b) ⌝ }
-    requires { ⌜ depth ≤ 24 ⌝ }
-    ensures answer { λ r. ⌜ r ≡ roomRefusal g depth (boxOf b) (length (now (table .entry))) ⌝ }
-    ensures left { λ _. ⌜ now (table .exit) ≡ roomTable g depth (boxOf b) (length (now (table .entry))) ⌝ }
-{
-    let root = Node::root(g, b);
-    let step = root.look(depth);
-    let Filled::Done(n) = fill(g, root, step, depth, table, 1, 2, true, 0, depth) else {
-        zero(table, 0);
-        return 13;
-    };
-    zero(table, 32 * (n.cells + 1));
-    put_head(table, n.head(b));
-    0
 }
 
 // Over the box of the lows `lo` and the highs `hi`, in ticks. 0, or the number of the refusal.

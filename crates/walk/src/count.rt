@@ -1,32 +1,35 @@
 // A whole tree, counted without a table.
 ghost use mathlib.Core.Path.{_≡_};
 ghost use Prim.Native.Nat.{_≤_};
-ghost use Rattle.tree.specs.Box.{boxOf};
+ghost use Rattle.tree.specs.Box.{Good, boxOf};
+ghost use Rattle.gyroid.specs.Numbers.{leafAt};
+ghost use Rattle.memory.specs.Memory.{Remembers};
 ghost use Rattle.walk.specs.Counted.{countedOf};
-ghost use Rattle.walk.specs.Carried.{Stands, stepOf};
 use crate::Counted;
 use crate::Node;
 use crate::Step;
-use gyroid::Gyroid;
 
-// From a box and what is done at it, with the depth that is left as the falling number.
-pub fn count(g: Gyroid, n: Node, step: Step, depth: usize) -> Counted
-    requires { ⌜ Stands g n ⌝ }
-    requires { ⌜ step ≡ stepOf (n .s) depth (boxOf (n .b)) ⌝ }
+// With the depth that is left as the falling number.
+pub fn count(
+    leaf: &[f64; 34],
+    keys: &mut [usize; 480],
+    parts: &mut [f64; 1984],
+    n: Node,
+    depth: usize,
+) -> Counted
+    requires { ⌜ Good (boxOf (n .b)) ⌝ }
     requires { ⌜ depth ≤ 24 ⌝ }
-    ensures { λ r. ⌜ r ≡ countedOf g depth (boxOf (n .b)) ⌝ }
+    requires { ⌜ Remembers (leafAt (now leaf)) (now keys) (now parts) ⌝ }
+    ensures { λ r. ⌜ r ≡ countedOf (leafAt (now (leaf .entry))) depth (boxOf (n .b)) ⌝ }
+    ensures { λ _. ⌜ Remembers (leafAt (now (leaf .entry))) (now (keys .exit)) (now (parts .exit)) ⌝ }
 {
-    match step {
-        Step::Cell(s) => {
-            let b = n.b;
-            Counted::cell(s, b)
-        }
+    let b = n.b;
+    match n.look(leaf, keys, parts, depth) {
+        Step::Cell(s) => Counted::cell(s, b),
         Step::Halves(a) => {
-            let b = n.b;
-            let lower = n.beside(g, a, b.lower(a));
-            let l = count(g, lower, lower.look(depth - 1), depth - 1);
-            let upper = n.beside(g, a, b.upper(a));
-            let h = count(g, upper, upper.look(depth - 1), depth - 1);
+            let left = depth - 1;
+            let l = count(leaf, keys, parts, n.lower(a), left);
+            let h = count(leaf, keys, parts, n.upper(a), left);
             l.joined(h)
         }
     }

@@ -1,20 +1,19 @@
 // The cells of the tree, written to their slots in walk order as the walk comes to them. No box is evaluated twice.
 ghost use mathlib.Core.Path.{_≡_};
 ghost use mathlib.Core.Bool.{cond};
-ghost use Prim.Native.Nat.{_+_, _-_, _/_, _≤_, _<_};
+ghost use Prim.Native.Nat.{_+_, _/_, _≤_, _<_};
 ghost use lib.ListN.{length};
-ghost use Rattle.table.specs.Placed.{placed};
-ghost use Rattle.tree.specs.Box.{boxOf, longest};
-ghost use Rattle.tree.specs.Tree.{leaves, cells};
-ghost use Rattle.walk.specs.FunctionsInUse.{settled, recordsOf};
-ghost use Rattle.walk.specs.Counted.{filledOf};
-ghost use Rattle.walk.specs.Carried.{Stands, stepOf};
+ghost use Rattle.tree.specs.Box.{Good, boxOf, longest};
+ghost use Rattle.tree.specs.Tree.{leaves};
+ghost use Rattle.gyroid.specs.Numbers.{leafAt};
+ghost use Rattle.memory.specs.Memory.{Remembers};
+ghost use Rattle.walk.specs.FunctionsInUse.{settled};
+ghost use Rattle.walk.specs.Counted.{filledOf, Written};
 use crate::Counted;
 use crate::Filled;
 use crate::Node;
 use crate::Step;
 use crate::visit::number;
-use gyroid::Gyroid;
 use table::put::put_cell;
 
 // The slot that a cell names: `after` if it is the last of all, otherwise the one that the next cell goes to.
@@ -28,13 +27,13 @@ fn named(last: bool, fresh: usize, after: usize) -> usize
 }
 
 // The first cell to `slot`, the others to the slots from `fresh` on. The last of them names `after` if it is the last of all (`last`), and
-// otherwise the slot behind them. Full as soon as a cell has no slot. What is done at the box, `step`, comes from the caller, who has just
-// evaluated it: to read it back from a copied node would take longer. The depth that is left is the falling number; `limit` is what is left at
+// otherwise the slot behind them. Full as soon as a cell has no slot. The depth that is left is the falling number; `limit` is what is left at
 // the root of the walk, so that a cell's depth is `limit` less the depth that is left.
 pub fn fill(
-    g: Gyroid,
+    leaf: &[f64; 34],
+    keys: &mut [usize; 480],
+    parts: &mut [f64; 1984],
     n: Node,
-    step: Step,
     depth: usize,
     t: &mut [u8],
     slot: usize,
@@ -43,35 +42,33 @@ pub fn fill(
     after: usize,
     limit: usize,
 ) -> Filled
-    requires { ⌜ Stands g n ⌝ }
-    requires { ⌜ step ≡ stepOf (n .s) depth (boxOf (n .b)) ⌝ }
+    requires { ⌜ Good (boxOf (n .b)) ⌝ }
     requires { ⌜ depth ≤ limit ⌝ }
     requires { ⌜ limit ≤ 24 ⌝ }
     requires { ⌜ slot < fresh ⌝ }
-    requires { ⌜ fresh + leaves (settled g) longest depth (boxOf (n .b)) ≤ 8589934592 ⌝ }
-    ensures { λ r. ⌜ r ≡ filledOf g depth (boxOf (n .b)) fresh (length (now (t .entry)) / 32) ⌝ }
-    ensures { λ _. ⌜ (fresh + leaves (settled g) longest depth (boxOf (n .b)) ≤ length (now (t .entry)) / 32 + 1
-        → now (t .exit) ≡ placed (now (t .entry)) slot fresh (cond last after (fresh + leaves (settled g) longest depth (boxOf (n .b)) - 1))
-        (recordsOf g (cells (settled g) longest depth (limit - depth) (boxOf (n .b))))) ⌝ }
+    requires { ⌜ fresh + leaves (settled (leafAt (now leaf))) longest depth (boxOf (n .b)) ≤ 8589934592 ⌝ }
+    requires { ⌜ Remembers (leafAt (now leaf)) (now keys) (now parts) ⌝ }
+    ensures { λ r. ⌜ r ≡ filledOf (leafAt (now (leaf .entry))) depth (boxOf (n .b)) fresh (length (now (t .entry)) / 32) ⌝ }
+    ensures { λ _. ⌜ Written (leafAt (now (leaf .entry))) (now (t .entry)) depth (boxOf (n .b)) slot fresh last after limit (now (t .exit)) ⌝ }
+    ensures { λ _. ⌜ Remembers (leafAt (now (leaf .entry))) (now (keys .exit)) (now (parts .exit)) ⌝ }
 {
-    match step {
+    let b = n.b;
+    match n.look(leaf, keys, parts, depth) {
         Step::Cell(s) => {
             if t.len() / 32 < fresh {
                 return Filled::Full;
             }
-            let b = n.b;
             let next = named(last, fresh, after);
             put_cell(t, slot, next, number(s), limit - depth, b);
             Filled::Done(Counted::cell(s, b))
         }
         Step::Halves(a) => {
-            let b = n.b;
             let left = depth - 1;
-            let lower = n.beside(g, a, b.lower(a));
             let low = fill(
-                g,
-                lower,
-                lower.look(left),
+                leaf,
+                keys,
+                parts,
+                n.lower(a),
                 left,
                 t,
                 slot,
@@ -84,11 +81,11 @@ pub fn fill(
                 return Filled::Full;
             };
             let mid = fresh + l.cells - 1;
-            let upper = n.beside(g, a, b.upper(a));
             let high = fill(
-                g,
-                upper,
-                upper.look(left),
+                leaf,
+                keys,
+                parts,
+                n.upper(a),
                 left,
                 t,
                 mid,

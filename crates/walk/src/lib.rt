@@ -1,29 +1,21 @@
 // The walk over a part box: a box is halved until it is settled, one tick cube, or at the last depth, and its cells are written to a lent
 // table. Here stand the types. `walk` is the public call.
-mod axes; // what each axis of a box gives to its residual
 mod visit; // a box of the tree: what is done at it, and its halves
 mod tally; // what a cell counts, and two halves
 pub mod count; // a whole tree, counted
 pub mod fill; // its cells, written
+mod run; // the walk of a leaf
 pub mod calls; // the public call
 
-use gyroid::Part;
 use gyroid::State;
+use memory::Places;
 use tree::Axis;
 use tree::ShiftedBox;
 
-// What each axis of a box gives to its residual. A halving renews one of them.
-pub struct Parts {
-    pub x: Part,
-    pub y: Part,
-    pub z: Part,
-}
-
-// A box of the tree, its parts and the state that they give it.
+// A box of the tree, and where its sides are looked up.
 pub struct Node {
     pub b: ShiftedBox,
-    pub p: Parts,
-    pub s: State,
+    pub p: Places,
 }
 
 // A box is a cell, with its state, or it is halved.

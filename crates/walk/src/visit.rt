@@ -1,19 +1,17 @@
-// A box of the tree: what is done at it, and the box of its half. Its state, and what a cell in that state counts.
+// A box of the tree: what is done at it, and its halves. Its state, and what a cell in that state counts.
 ghost use mathlib.Core.Path.{_≡_};
 ghost use mathlib.Core.Bool.{cond, _||_};
 ghost use lib.Dec.{eqb};
 ghost use Rattle.gyroid.specs.Residual.{stateNumber};
-ghost use Rattle.tree.specs.Box.{Good, boxOf, oneCube, volume};
-ghost use Rattle.tree.specs.Beside.{Beside};
+ghost use Rattle.tree.specs.Box.{Good, boxOf, lower, upper, oneCube, volume};
+ghost use Rattle.gyroid.specs.Numbers.{leafAt};
+ghost use Rattle.memory.specs.Memory.{Remembers};
 ghost use Rattle.walk.specs.Walk.{isSettled, isInside};
-ghost use Rattle.walk.specs.Carried.{Stands, partsOf, stepOf};
+ghost use Rattle.walk.specs.Step.{stepAt};
 use crate::Node;
-use crate::Parts;
 use crate::Step;
-use crate::axes::part_of;
-use gyroid::Gyroid;
 use gyroid::State;
-use gyroid::parts::joined_state;
+use memory::states::state;
 use tree::Axis;
 use tree::ShiftedBox;
 
@@ -35,56 +33,50 @@ fn stops(s: State, depth: usize, b: ShiftedBox) -> bool
 }
 
 impl Node {
-    pub fn look(self, depth: usize) -> Step
+    // The one place where a box is evaluated.
+    pub fn look(
+        self,
+        leaf: &[f64; 34],
+        keys: &mut [usize; 480],
+        parts: &mut [f64; 1984],
+        depth: usize,
+    ) -> Step
         requires { ⌜ Good (boxOf (self .b)) ⌝ }
-        ensures { λ r. ⌜ r ≡ stepOf (self .s) depth (boxOf (self .b)) ⌝ }
+        requires { ⌜ Remembers (leafAt (now leaf)) (now keys) (now parts) ⌝ }
+        ensures { λ r. ⌜ r ≡ stepAt (leafAt (now (leaf .entry))) depth (boxOf (self .b)) ⌝ }
+        ensures { λ _. ⌜ Remembers (leafAt (now (leaf .entry))) (now (keys .exit)) (now (parts .exit)) ⌝ }
     {
         let b = self.b;
-        let s = self.s;
+        let p = self.p;
+        let s = state(leaf, keys, parts, b, p, depth);
         if stops(s, depth, b) {
             return Step::Cell(s);
         }
         Step::Halves(b.longest())
     }
 
-    // A box with its own parts: the one place where a box is evaluated.
-    fn evaluated(g: Gyroid, b: ShiftedBox, p: Parts) -> Node
-        requires { ⌜ Good (boxOf b) ⌝ }
-        requires { ⌜ p ≡ partsOf g (boxOf b) ⌝ }
-        ensures { λ r. ⌜ r .b ≡ b ⌝ }
-        ensures { λ r. ⌜ Stands g r ⌝ }
+    pub fn lower(self, a: Axis) -> Node
+        requires { ⌜ Good (boxOf (self .b)) ⌝ }
+        ensures { λ r. ⌜ boxOf (r .b) ≡ lower a (boxOf (self .b)) ⌝ }
     {
-        let surface = g.surface;
-        let levels = g.intervals;
-        let level = g.interval_level;
-        let k = g.wave;
-        let k2 = g.wave_squared;
+        let b = self.b;
+        let p = self.p;
         Node {
-            b,
-            p,
-            s: joined_state(surface, levels, level, k, k2, p.x, p.y, p.z),
+            b: b.lower(a),
+            p: p.half(a, 0),
         }
     }
 
-    // The root of a tree.
-    pub fn root(g: Gyroid, b: ShiftedBox) -> Node
-        requires { ⌜ Good (boxOf b) ⌝ }
-        ensures { λ r. ⌜ r .b ≡ b ⌝ }
-        ensures { λ r. ⌜ Stands g r ⌝ }
+    pub fn upper(self, a: Axis) -> Node
+        requires { ⌜ Good (boxOf (self .b)) ⌝ }
+        ensures { λ r. ⌜ boxOf (r .b) ≡ upper a (boxOf (self .b)) ⌝ }
     {
-        Node::evaluated(g, b, Parts::of(g, b))
-    }
-
-    // A box b that differs from this one along an axis.
-    pub fn beside(self, g: Gyroid, a: Axis, b: ShiftedBox) -> Node
-        requires { ⌜ Stands g self ⌝ }
-        requires { ⌜ Good (boxOf b) ⌝ }
-        requires { ⌜ Beside a (boxOf (self .b)) (boxOf b) ⌝ }
-        ensures { λ r. ⌜ r .b ≡ b ⌝ }
-        ensures { λ r. ⌜ Stands g r ⌝ }
-    {
-        let whole = self.p;
-        Node::evaluated(g, b, whole.renewed(a, part_of(g, b, a)))
+        let b = self.b;
+        let p = self.p;
+        Node {
+            b: b.upper(a),
+            p: p.half(a, 1),
+        }
     }
 }
 

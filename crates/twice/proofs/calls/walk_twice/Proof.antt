@@ -5,7 +5,8 @@ use lib.ListN.{length}
 use Rattle.gyroid.specs.Refusals.{refusal}
 use Rattle.tree.specs.Box.{Good}
 use Rattle.walk.specs.Walk.{entryRefusal}
-use Rattle.walk.proofs.CallLaws.{Entered, entered, walk-refused, walk-ran, entry-number, depth-cast, depth-small, ran-number, ran-table}
+use Rattle.walk.proofs.CallLaws.{Entered, entered, walk-refused, walk-ran, entry-number, depth-cast, depth-small}
+use Rattle.walk.proofs.CallLaws.{made-lendable, ran-number, ran-table}
 use Rattle.twice.proofs.calls.walk_twice.Statement.{statement}
 use Rattle.twice.proofs.calls.walk_twice.Tie as tie
 
@@ -43,9 +44,13 @@ cast-run-twice c =
 run-twice-requires : tie.Need-run-twice-requires
 run-twice-requires c κs =
     let e = c .before .before .before in
-    let s = start (e .before) in (
-      subst⁻¹ Good (c .before .of .ensures) (passed e .good),
-      depth-small (s .args .description) (s .args .lo) (s .args .hi) (s .fits .depth) (e .before .before .certified .ensures) (passed e),
+    let s = start (e .before) in
+    let made = e .before .before .certified .ensures in (
+      made-lendable (s .args .description) (s .args .lo) (s .args .hi) (s .fits .depth) made (passed e),
+      (
+        subst⁻¹ Good (c .before .of .ensures) (passed e .good),
+        depth-small (s .args .description) (s .args .lo) (s .args .hi) (s .fits .depth) made (passed e),
+      ),
     )
 
 same-length : tie.Need-same-length

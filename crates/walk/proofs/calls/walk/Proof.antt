@@ -8,7 +8,8 @@ use Rattle.gyroid.specs.Fits.{Accepted}
 use Rattle.tree.specs.Box.{Good, boxFrom}
 use Rattle.walk.specs.Walk.{entryRefusal}
 use Rattle.grade.specs.InUse.{inUse}
-use Rattle.walk.proofs.CallLaws.{Entered, entered, walk-refused, walk-ran, entry-number, depth-cast, depth-small, ran-number, ran-table}
+use Rattle.walk.proofs.CallLaws.{Entered, entered, walk-refused, walk-ran, entry-number, depth-cast, depth-small}
+use Rattle.walk.proofs.CallLaws.{made-lendable, ran-number, ran-table}
 use Rattle.walk.proofs.DemandLaws.{demand}
 use Rattle.walk.proofs.SupposedLaws.{entry-none, room-none}
 use Rattle.walk.proofs.calls.walk.Statement.{statement}
@@ -49,9 +50,13 @@ cast-run c =
 run-requires : tie.Need-run-requires
 run-requires c κs =
     let e = c .before .before .before in
-    let s = start (e .before) in (
-      subst⁻¹ Good (c .before .of .ensures) (passed e .good),
-      depth-small (s .args .description) (s .args .lo) (s .args .hi) (s .fits .depth) (e .before .before .certified .ensures) (passed e),
+    let s = start (e .before) in
+    let made = e .before .before .certified .ensures in (
+      made-lendable (s .args .description) (s .args .lo) (s .args .hi) (s .fits .depth) made (passed e),
+      (
+        subst⁻¹ Good (c .before .of .ensures) (passed e .good),
+        depth-small (s .args .description) (s .args .lo) (s .args .hi) (s .fits .depth) made (passed e),
+      ),
     )
 
 same-length : tie.Need-same-length

@@ -1,24 +1,26 @@
 -- A cell is written to its slot if there is one; of a box that is halved, the cells of the lower half are written and then those of the upper.
--- The depth that is left falls. `cell` and `halved` say what the step at the box tells of its tree, `low-is` and `high-is` which boxes its halves
--- are, `low-done` and `high-done` what the writer's answers tell of them: the needs follow from these. Assumes nothing.
-use mathlib.Core.Path.{_≡_, refl, sym, ap, _∙_}
+-- The depth that is left falls. `cell` and `halved` say what the step at the box tells of its tree, `low-good` and `high-good` that its halves are
+-- boxes of it, `low-done` and `high-done` what the writer's answers tell of them: the needs follow from these. Assumes nothing.
+use mathlib.Core.Path.{_≡_, refl, sym, ap, _∙_, subst⁻¹}
 use mathlib.Core.List.{List}
 use Prim.Native.Nat.{ℕ, suc, _+_, _-_, _/_, _≤_, _<_}
 use native.Mathlib.Omega.{arith}
 use borrow.Author.Needs.{needs}
 use lib.ListN.{length}
 use Rattle.gyroid.specs.declared.Gyroid.{Gyroid}
-use Rattle.tree.specs.Box.{Box, boxOf, longest, lower, upper}
+use Rattle.tree.specs.Box.{Box, Good, boxOf, longest}
 use Rattle.tree.specs.Tree.{leaves, cells}
 use Rattle.tree.proofs.CountLaws.{leaves-least}
+use Rattle.tree.proofs.HalfLaws.{good-lower, good-upper}
 use Rattle.table.specs.Table.{Record}
 use Rattle.table.proofs.BoundLaws.{within-ticks}
 use Rattle.table.proofs.PlacedLaws.{placed-cell, placed-halves}
+use Rattle.gyroid.specs.Numbers.{leafAt}
+use Rattle.memory.specs.Memory.{Remembers}
 use Rattle.grade.specs.InUse.{inUse}
 use Rattle.walk.specs.FunctionsInUse.{settled, recordsOf}
 use Rattle.walk.proofs.StepLaws.{AtCell, AtHalves, at-cell, at-halves}
 use Rattle.walk.proofs.RecordLaws.{records-cell, records-halves, records-leaves}
-use Rattle.walk.proofs.PartLaws.{lower-ready, upper-ready}
 use Rattle.walk.proofs.CountedLaws.{counted-cells, counted-cell, counted-halves, counted-adds}
 use Rattle.walk.proofs.FilledLaws.{HasRoom, is-done, is-full, done-tells, full-tells}
 use borrow.Fn.Kinds.{In}
@@ -27,29 +29,30 @@ use Rattle.walk.proofs.fill.fill.Reads as fill
 use Rattle.walk.proofs.fill.fill.Kinds as fill-kinds
 use Rattle.walk.proofs.fill.+fill.Lts-fill as fill-lts
 use Rattle.table.proofs.put.put_cell.Reads as put-cell-reads
-use Rattle.tree.proofs.ShiftedBox.lower.Reads as lower-reads
-use Rattle.tree.proofs.ShiftedBox.upper.Reads as upper-reads
 use Rattle.walk.proofs.Counted.cell.Reads as cell-reads
 use Rattle.walk.proofs.Counted.joined.Reads as joined-reads
-use Rattle.walk.proofs.Node.beside.Reads as beside-reads
 use Rattle.walk.proofs.Node.look.Reads as look-reads
+use Rattle.walk.proofs.Node.lower.Reads as lower-reads
+use Rattle.walk.proofs.Node.upper.Reads as upper-reads
 use Rattle.walk.proofs.fill.named.Reads as named-reads
 use Rattle.walk.proofs.visit.number.Reads as number-reads
 use Rattle.walk.proofs.fill.+fill.{statement}
 use Rattle.walk.proofs.fill.+fill.Tie.{close}
 
-abbrev μ-fill : Measures 1 fill-kinds.ps ℕ
-μ-fill κs a = a .1 .1 .1 .0
+abbrev μ-fill : Measures 4 fill-kinds.ps ℕ
+μ-fill κs a = a .1 .1 .1 .1 .0
 
-abbrev fill-at : ℕ → In 1 fill-kinds.ps
-fill-at t = and 1 fill-kinds.ps (is 1 fill-kinds.ps μ-fill t) fill.Pre
+abbrev fill-at : ℕ → In 4 fill-kinds.ps
+fill-at t = and 4 fill-kinds.ps (is 4 fill-kinds.ps μ-fill t) fill.Pre
 
-abbrev fill-below : ℕ → In 1 fill-kinds.ps
-fill-below t = and 1 fill-kinds.ps (falls 1 fill-kinds.ps _<_ μ-fill t) fill.Pre
+abbrev fill-below : ℕ → In 4 fill-kinds.ps
+fill-below t = and 4 fill-kinds.ps (falls 4 fill-kinds.ps _<_ μ-fill t) fill.Pre
 
 -- what the functions that are called ask and promise
 abbrev claims : ℕ → fill-lts.Claims
 claims t = (
+  look-reads.Asked,
+  look-reads.Learnt,
   named-reads.Asked,
   named-reads.Learnt,
   number-reads.Asked,
@@ -60,10 +63,6 @@ claims t = (
   cell-reads.Learnt,
   lower-reads.Asked,
   lower-reads.Learnt,
-  beside-reads.Asked,
-  beside-reads.Learnt,
-  look-reads.Asked,
-  look-reads.Learnt,
   fill-below t,
   fill.Post,
   upper-reads.Asked,
@@ -76,7 +75,10 @@ claims t = (
 abbrev Start : ℕ → Type 0
 Start t = fill-lts.Start (claims t) (fill-at t) fill.Post
 
--- the box is a cell; it is halved on an axis
+-- the box is evaluated; it is a cell; it is halved on an axis
+abbrev Looked : ℕ → Type 0
+Looked t = fill-lts.After-look (claims t) (fill-at t) fill.Post
+
 abbrev IsCell : ℕ → Type 0
 IsCell t = fill-lts.After-known-told (claims t) (fill-at t) fill.Post
 
@@ -85,7 +87,7 @@ IsHalved t = fill-lts.After-known-told2 (claims t) (fill-at t) fill.Post
 
 -- the lower half is at hand; the writer has answered; its cells are written
 abbrev Lower : ℕ → Type 0
-Lower t = fill-lts.After-beside (claims t) (fill-at t) fill.Post
+Lower t = fill-lts.After-lower (claims t) (fill-at t) fill.Post
 
 abbrev LowFilled : ℕ → Type 0
 LowFilled t = fill-lts.After-fill (claims t) (fill-at t) fill.Post
@@ -95,7 +97,7 @@ LowDone t = fill-lts.After-known-told3 (claims t) (fill-at t) fill.Post
 
 -- so with the upper half
 abbrev Upper : ℕ → Type 0
-Upper t = fill-lts.After-beside2 (claims t) (fill-at t) fill.Post
+Upper t = fill-lts.After-upper (claims t) (fill-at t) fill.Post
 
 abbrev HighFilled : ℕ → Type 0
 HighFilled t = fill-lts.After-fill2 (claims t) (fill-at t) fill.Post
@@ -103,29 +105,32 @@ HighFilled t = fill-lts.After-fill2 (claims t) (fill-at t) fill.Post
 abbrev HighDone : ℕ → Type 0
 HighDone t = fill-lts.After-known-told4 (claims t) (fill-at t) fill.Post
 
-abbrev of-cell : (t : ℕ) → IsCell t → Start t
-of-cell t c = c .before .before .before .before
+abbrev start : (t : ℕ) → Looked t → Start t
+start t c = c .before .before .before .before .before
 
-abbrev of-halved : (t : ℕ) → IsHalved t → Start t
-of-halved t c = c .before .before .before .before
+abbrev of-cell : (t : ℕ) → IsCell t → Looked t
+of-cell t c = c .before .before .before
+
+abbrev of-halved : (t : ℕ) → IsHalved t → Looked t
+of-halved t c = c .before .before .before
 
 abbrev to-halved : (t : ℕ) → Lower t → IsHalved t
 to-halved t c = c .before .before .before
 
 abbrev of-lower : (t : ℕ) → Lower t → Start t
-of-lower t c = of-halved t (to-halved t c)
+of-lower t c = start t (of-halved t (to-halved t c))
 
 abbrev to-lower : (t : ℕ) → LowFilled t → Lower t
-to-lower t c = c .before .before .before
+to-lower t c = c .before .before
 
 abbrev to-low-filled : (t : ℕ) → LowDone t → LowFilled t
 to-low-filled t c = c .before .before .before .before .before
 
 abbrev to-low-done : (t : ℕ) → Upper t → LowDone t
-to-low-done t c = c .before .before .before
+to-low-done t c = c .before .before .before .before
 
 abbrev to-upper : (t : ℕ) → HighFilled t → Upper t
-to-upper t c = c .before .before .before
+to-upper t c = c .before .before
 
 abbrev to-high-filled : (t : ℕ) → HighDone t → HighFilled t
 to-high-filled t c = c .before .before .before .before .before
@@ -137,196 +142,164 @@ done-lower t c = to-lower t (to-low-filled t c)
 abbrev upper-lower : (t : ℕ) → Upper t → Lower t
 upper-lower t c = done-lower t (to-low-done t c)
 
--- the box of a call
+-- the leaf and the box of a call
+abbrev leaf : (t : ℕ) → Start t → Gyroid
+leaf t s = leafAt (s .args .leaf .now)
+
 abbrev whole : (t : ℕ) → Start t → Box
 whole t s = boxOf (s .args .n .b)
 
 -- ---- what a call asks, by name
+good : (t : ℕ) (s : Start t) → Good (whole t s)
+good t s = s .pre .1 .0
+
 depth-left : (t : ℕ) (s : Start t) → s .args .depth ≤ s .args .limit
-depth-left t s = s .pre .1 .1 .1 .0
+depth-left t s = s .pre .1 .1 .0
 
 limit-most : (t : ℕ) (s : Start t) → s .args .limit ≤ 24
-limit-most t s = s .pre .1 .1 .1 .1 .0
+limit-most t s = s .pre .1 .1 .1 .0
 
 fresh-behind : (t : ℕ) (s : Start t) → s .args .slot < s .args .fresh
-fresh-behind t s = s .pre .1 .1 .1 .1 .1 .0
+fresh-behind t s = s .pre .1 .1 .1 .1 .0
 
-few : (t : ℕ) (s : Start t) → s .args .fresh + leaves (settled (s .args .g)) longest (s .args .depth) (whole t s) ≤ 8589934592
-few t s = s .pre .1 .1 .1 .1 .1 .1
+few : (t : ℕ) (s : Start t) → s .args .fresh + leaves (settled (leaf t s)) longest (s .args .depth) (whole t s) ≤ 8589934592
+few t s = s .pre .1 .1 .1 .1 .1 .0
+
+remembers : (t : ℕ) (s : Start t) → Remembers (leaf t s) (s .args .keys .now) (s .args .parts .now)
+remembers t s = s .pre .1 .1 .1 .1 .1 .1
 
 -- ---- what the step tells
-cell : (t : ℕ) (c : IsCell t) → let s = of-cell t c in AtCell (s .args .g) (s .args .depth) (whole t s) (c .before .step .given .0 .0)
-cell t c =
-    let p = of-cell t c .pre .1 in
-    at-cell _ _ _ _ (p .0 .state) (sym (p .1 .0) ∙ c .before .step .given .1)
+cell : (t : ℕ) (c : IsCell t) → let s = start t (of-cell t c) in AtCell (leaf t s) (s .args .depth) (whole t s) (c .before .s .given .0 .0)
+cell t c = at-cell _ _ _ _ (sym (of-cell t c .look .ensures .0) ∙ c .before .s .given .1)
 
-halved : (t : ℕ) (c : IsHalved t) → let s = of-halved t c in AtHalves (s .args .g) (s .args .depth) (whole t s) (c .before .step2 .given .0 .0)
-halved t c =
-    let p = of-halved t c .pre .1 in
-    at-halves _ _ _ _ (p .0 .good) (p .0 .state) (sym (p .1 .0) ∙ c .before .step2 .given .1)
+halved : (t : ℕ) (c : IsHalved t) → let s = start t (of-halved t c) in AtHalves (leaf t s) (s .args .depth) (whole t s) (c .before .a .given .0 .0)
+halved t c = at-halves _ _ _ _ (good t (start t (of-halved t c))) (sym (of-halved t c .look .ensures .0) ∙ c .before .a .given .1)
 
--- ---- the boxes of the halves
-low-is : (t : ℕ) (c : Lower t) → boxOf (c .beside .result .b) ≡ lower (to-halved t c .before .step2 .given .0 .0) (whole t (of-lower t c))
-low-is t c = ap boxOf (c .beside .ensures .0) ∙ c .before .lower .ensures
+-- ---- the halves are boxes of the tree
+low-good : (t : ℕ) (c : Lower t) → Good (boxOf (c .lower .result .b))
+low-good t c = subst⁻¹ Good (c .lower .ensures) (good-lower _ _ (good t (of-lower t c)) (halved t (to-halved t c) .two))
 
-high-is : (t : ℕ) (c : Upper t)
-    → let l = upper-lower t c in boxOf (c .beside2 .result .b) ≡ upper (to-halved t l .before .step2 .given .0 .0) (whole t (of-lower t l))
-high-is t c = ap boxOf (c .beside2 .ensures .0) ∙ c .before .upper .ensures
+high-good : (t : ℕ) (c : Upper t) → Good (boxOf (c .upper .result .b))
+high-good t c =
+    let l = upper-lower t c in
+    subst⁻¹ Good (c .upper .ensures) (good-upper _ _ (good t (of-lower t l)) (halved t (to-halved t l) .two))
 
 -- ---- what the answers tell: the counts, and that there was room
 low-done : (t : ℕ) (c : LowDone t)
-    → let l = done-lower t c in let a = of-lower t l .args in
-    HasRoom (a .g) (a .depth - 1) (boxOf (l .beside .result .b)) (a .fresh) (length (a .t .now) / 32) (c .before .low .given .0 .0)
+    → let l = done-lower t c in let s = of-lower t l in let a = s .args in
+    HasRoom (leaf t s) (a .depth - 1) (boxOf (l .lower .result .b)) (a .fresh) (length (a .t .now) / 32) (c .before .low .given .0 .0)
 low-done t c = done-tells _ _ _ _ _ (to-low-filled t c .fill .ensures .0) (c .before .low .given .1)
 
 -- the lower half's cells, and that there is one
 low-cells : (t : ℕ) (c : LowDone t)
-    → let l = done-lower t c in let a = of-lower t l .args in
-    c .before .low .given .0 .0 .cells ≡ leaves (settled (a .g)) longest (a .depth - 1) (boxOf (l .beside .result .b))
+    → let l = done-lower t c in let s = of-lower t l in
+    c .before .low .given .0 .0 .cells ≡ leaves (settled (leaf t s)) longest (s .args .depth - 1) (boxOf (l .lower .result .b))
 low-cells t c = counted-cells _ _ _ (low-done t c .counted)
 
-low-least : (t : ℕ) (c : Lower t) → let a = of-lower t c .args in 1 ≤ leaves (settled (a .g)) longest (a .depth - 1) (boxOf (c .beside .result .b))
+low-least : (t : ℕ) (c : Lower t)
+    → let s = of-lower t c in 1 ≤ leaves (settled (leaf t s)) longest (s .args .depth - 1) (boxOf (c .lower .result .b))
 low-least t c = leaves-least _ _ _ _
 
 high-done : (t : ℕ) (c : HighDone t)
-    → let u = to-upper t (to-high-filled t c) in let f = to-low-filled t (to-low-done t u) in let a = of-lower t (to-lower t f) .args in
-    HasRoom (a .g) (a .depth - 1) (boxOf (u .beside2 .result .b)) (a .fresh + to-low-done t u .before .low .given .0 .0 .cells - 1 + 1)
-    (length (f .fill .last .1 .1 .1 .1 .0) / 32)
+    → let u = to-upper t (to-high-filled t c) in let f = to-low-filled t (to-low-done t u) in let s = of-lower t (to-lower t f) in
+    HasRoom (leaf t s) (s .args .depth - 1) (boxOf (u .upper .result .b)) (s .args .fresh + to-low-done t u .before .low .given .0 .0 .cells - 1 + 1)
+    (length (f .fill .last .1 .1 .1 .1 .1 .0) / 32)
     (c .before .high .given .0 .0)
 high-done t c = done-tells _ _ _ _ _ (to-high-filled t c .fill2 .ensures .0) (c .before .high .given .1)
 
--- ---- a cell: it has no slot, or it is put there
-fill-enum-known-step : (t : ℕ) → fill-lts.Need-enum-known-step (claims t) (fill-at t) fill.Post
-fill-enum-known-step t c = search needs
+-- ---- the box is evaluated
+fill-look-requires : (t : ℕ) → fill-lts.Need-look-requires (claims t) (fill-at t) fill.Post
+fill-look-requires t c κs =
+    let s = c .before .before .before .before in
+    (good t s, remembers t s)
 
+-- ---- a cell: it has no slot, or it is put there
 fill-returns : (t : ℕ) → fill-lts.Need-returns (claims t) (fill-at t) fill.Post
 fill-returns t c =
     let one = cell t (c .before) .tree .leaves1 in
-    (is-full _ _ _ _ _ (omega (arith, one, c .if1 .taken)), λ h. absurd (omega (arith, one, c .if1 .taken)))
+    let kept = of-cell t (c .before) .look .ensures .1 in
+    (is-full _ _ _ _ _ (omega (arith, one, c .if1 .taken)), ((λ h. absurd (omega (arith, one, c .if1 .taken))), kept))
 
 fill-sub-put-cell : (t : ℕ) → fill-lts.Need-sub-put-cell (claims t) (fill-at t) fill.Post
-fill-sub-put-cell t c = depth-left t (of-cell t (c .before .before .before .before .before))
+fill-sub-put-cell t c = depth-left t (start t (of-cell t (c .before .before .before .before)))
 
 fill-put-cell-requires : (t : ℕ) → fill-lts.Need-put-cell-requires (claims t) (fill-at t) fill.Post
 fill-put-cell-requires t c κs =
-    let e = c .before .before .before .before in
-    let s = of-cell t (e .before) in
-    (within-ticks (s .args .n .b) (s .pre .1 .0 .good), omega (arith, e .if1 .left, fresh-behind t s))
+    let e = c .before .before .before in
+    let s = start t (of-cell t (e .before)) in
+    (within-ticks (s .args .n .b) (good t s), omega (arith, e .if1 .left, fresh-behind t s))
 
 fill-cell-requires : (t : ℕ) → fill-lts.Need-cell-requires (claims t) (fill-at t) fill.Post
-fill-cell-requires t c κs = of-cell t (c .before .before .before .before .before .before .before .before) .pre .1 .0 .good
+fill-cell-requires t c κs = good t (start t (of-cell t (c .before .before .before .before .before .before .before)))
 
 -- ---- the lower half
-fill-enum-known-step-2 : (t : ℕ) → fill-lts.Need-enum-known-step-2 (claims t) (fill-at t) fill.Post
-fill-enum-known-step-2 t c = search needs
-
 fill-sub-left : (t : ℕ) → fill-lts.Need-sub-left (claims t) (fill-at t) fill.Post
-fill-sub-left t c = halved t (c .before) .left
+fill-sub-left t c = halved t c .left
 
 fill-lower-requires : (t : ℕ) → fill-lts.Need-lower-requires (claims t) (fill-at t) fill.Post
-fill-lower-requires t c κs = of-halved t (c .before) .pre .1 .0 .good
-
-fill-beside-requires : (t : ℕ) → fill-lts.Need-beside-requires (claims t) (fill-at t) fill.Post
-fill-beside-requires t c κs =
-    let k = c .before .before in
-    let s = of-halved t k in
-    let r = lower-ready _ (whole t s) _ (s .pre .1 .0 .good) (halved t k .two) (c .lower .ensures) in
-    (s .pre .1 .0, (r .0, r .1))
-
-fill-look-requires : (t : ℕ) → fill-lts.Need-look-requires (claims t) (fill-at t) fill.Post
-fill-look-requires t c κs = c .beside .ensures .1 .good
+fill-lower-requires t c κs = good t (start t (of-halved t (c .before .before)))
 
 fill-fill-requires : (t : ℕ) → fill-lts.Need-fill-requires (claims t) (fill-at t) fill.Post
 fill-fill-requires t c κs =
-    let k = c .before in
-    let l = k .before in
-    let h = halved t (to-halved t l) in
+    let l = c .before in
+    let k = to-halved t l in
+    let h = halved t k in
     let s = of-lower t l in
-    let sum = h .leaves2 (low-is t l) refl in (
+    let kept = of-halved t k .look .ensures .1 in
+    let sum = h .leaves2 (l .lower .ensures) refl in (
       omega (arith, s .pre .0, h .left),
-      (l .beside .ensures .1, (k .look .ensures, (omega (arith, depth-left t s), (limit-most t s, (fresh-behind t s, omega (arith, few t s, sum)))))),
+      (low-good t l, (omega (arith, depth-left t s), (limit-most t s, (fresh-behind t s, (omega (arith, few t s, sum), kept))))),
     )
 
 -- its cells have no room
-fill-enum-known-low : (t : ℕ) → fill-lts.Need-enum-known-low (claims t) (fill-at t) fill.Post
-fill-enum-known-low t c = search needs
-
-fill-enum-told : (t : ℕ) → fill-lts.Need-enum-told (claims t) (fill-at t) fill.Post
-fill-enum-told t c = search needs
-
 fill-same-length : (t : ℕ) → fill-lts.Need-same-length (claims t) (fill-at t) fill.Post
-fill-same-length t c = c .before .before .before .before .fill .kept .1 .1 .1 .1 .0
+fill-same-length t c = c .before .before .before .before .fill .kept .1 .1 .1 .1 .1 .0
 
 fill-returns-2 : (t : ℕ) → fill-lts.Need-returns-2 (claims t) (fill-at t) fill.Post
 fill-returns-2 t c =
     let f = c .before .before .before .before in
     let l = to-lower t f in
     let full = full-tells _ _ _ _ _ (f .fill .ensures .0) (c .enum-told .given .1) in
-    let sum = halved t (to-halved t l) .leaves2 (low-is t l) refl in
-    (is-full _ _ _ _ _ (omega (arith, full, sum)), λ q. absurd (omega (arith, full, sum)))
+    let sum = halved t (to-halved t l) .leaves2 (l .lower .ensures) refl in
+    (is-full _ _ _ _ _ (omega (arith, full, sum)), ((λ q. absurd (omega (arith, full, sum))), f .fill .ensures .1 .1))
 
 -- ---- the upper half, behind the cells of the lower
 fill-add-mid : (t : ℕ) → fill-lts.Need-add-mid (claims t) (fill-at t) fill.Post
 fill-add-mid t c =
     let l = done-lower t (c .before) in
-    omega (arith, low-cells t (c .before), few t (of-lower t l), halved t (to-halved t l) .leaves2 (low-is t l) refl)
+    omega (arith, low-cells t (c .before), few t (of-lower t l), halved t (to-halved t l) .leaves2 (l .lower .ensures) refl)
 
 fill-sub-mid : (t : ℕ) → fill-lts.Need-sub-mid (claims t) (fill-at t) fill.Post
 fill-sub-mid t c = omega (arith, low-cells t (c .before), low-least t (done-lower t (c .before)))
 
 fill-upper-requires : (t : ℕ) → fill-lts.Need-upper-requires (claims t) (fill-at t) fill.Post
-fill-upper-requires t c κs = of-lower t (done-lower t (c .before)) .pre .1 .0 .good
-
-fill-beside-requires-2 : (t : ℕ) → fill-lts.Need-beside-requires-2 (claims t) (fill-at t) fill.Post
-fill-beside-requires-2 t c κs =
-    let l = done-lower t (c .before .before) in
-    let s = of-lower t l in
-    let r = upper-ready _ (whole t s) _ (s .pre .1 .0 .good) (halved t (to-halved t l) .two) (c .upper .ensures) in
-    (s .pre .1 .0, (r .0, r .1))
-
-fill-look-requires-2 : (t : ℕ) → fill-lts.Need-look-requires-2 (claims t) (fill-at t) fill.Post
-fill-look-requires-2 t c κs = c .beside2 .ensures .1 .good
+fill-upper-requires t c κs = good t (of-lower t (done-lower t (c .before .before .before)))
 
 fill-add-fill : (t : ℕ) → fill-lts.Need-add-fill (claims t) (fill-at t) fill.Post
 fill-add-fill t c =
-    let d = to-low-done t (c .before .before) in
+    let d = to-low-done t (c .before) in
     let l = done-lower t d in
-    omega (arith, low-cells t d, few t (of-lower t l), halved t (to-halved t l) .leaves2 (low-is t l) refl)
+    omega (arith, low-cells t d, few t (of-lower t l), halved t (to-halved t l) .leaves2 (l .lower .ensures) refl)
 
 fill-fill-requires-2 : (t : ℕ) → fill-lts.Need-fill-requires-2 (claims t) (fill-at t) fill.Post
 fill-fill-requires-2 t c κs =
-    let k = c .before in
-    let u = k .before in
+    let u = c .before in
     let d = to-low-done t u in
     let l = done-lower t d in
     let h = halved t (to-halved t l) in
     let s = of-lower t l in
-    let sum = h .leaves2 (low-is t l) (high-is t u) in
+    let kept = to-low-filled t d .fill .ensures .1 .1 in
+    let sum = h .leaves2 (l .lower .ensures) (u .upper .ensures) in
     let n = low-cells t d in (
       omega (arith, s .pre .0, h .left),
-      (
-        u .beside2 .ensures .1,
-        (
-          k .look2 .ensures,
-          (
-            omega (arith, depth-left t s),
-            (limit-most t s, (omega arith, omega (arith, few t s, sum, n, low-least t l))),
-          ),
-        ),
-      ),
+      (high-good t u, (omega (arith, depth-left t s), (limit-most t s, (omega arith, (omega (arith, few t s, sum, n, low-least t l), kept))))),
     )
 
 -- its cells have no room
-fill-enum-known-high : (t : ℕ) → fill-lts.Need-enum-known-high (claims t) (fill-at t) fill.Post
-fill-enum-known-high t c = search needs
-
-fill-enum-told-2 : (t : ℕ) → fill-lts.Need-enum-told-2 (claims t) (fill-at t) fill.Post
-fill-enum-told-2 t c = search needs
-
 fill-same-length-2 : (t : ℕ) → fill-lts.Need-same-length-2 (claims t) (fill-at t) fill.Post
 fill-same-length-2 t c =
     let f = c .before .before .before .before in
-    f .fill2 .kept .1 .1 .1 .1 .0 ∙ to-low-filled t (to-low-done t (to-upper t f)) .fill .kept .1 .1 .1 .1 .0
+    f .fill2 .kept .1 .1 .1 .1 .1 .0 ∙ to-low-filled t (to-low-done t (to-upper t f)) .fill .kept .1 .1 .1 .1 .1 .0
 
 fill-returns-3 : (t : ℕ) → fill-lts.Need-returns-3 (claims t) (fill-at t) fill.Post
 fill-returns-3 t c =
@@ -335,11 +308,11 @@ fill-returns-3 t c =
     let d = to-low-done t u in
     let l = done-lower t d in
     let full = full-tells _ _ _ _ _ (f .fill2 .ensures .0) (c .enum-told2 .given .1) in
-    let sum = halved t (to-halved t l) .leaves2 (low-is t l) (high-is t u) in
-    let same = to-low-filled t d .fill .kept .1 .1 .1 .1 .0 in
+    let sum = halved t (to-halved t l) .leaves2 (l .lower .ensures) (u .upper .ensures) in
+    let same = to-low-filled t d .fill .kept .1 .1 .1 .1 .1 .0 in
     let n = low-cells t d in
     let least = low-least t l in
-    (is-full _ _ _ _ _ (omega (arith, full, sum, same, n, least)), λ q. absurd (omega (arith, full, sum, same, n, least)))
+    (is-full _ _ _ _ _ (omega (arith, full, sum, same, n, least)), ((λ q. absurd (omega (arith, full, sum, same, n, least))), f .fill2 .ensures .1 .1))
 
 -- ---- both counts
 fill-joined-requires : (t : ℕ) → fill-lts.Need-joined-requires (claims t) (fill-at t) fill.Post
@@ -349,7 +322,7 @@ fill-joined-requires t c κs =
     let l = done-lower t d in
     let s = of-lower t l in
     let shallow : s .args .depth ≤ 24 = omega (arith, depth-left t s, limit-most t s) in
-    counted-adds _ _ _ _ (halved t (to-halved t l)) (low-is t l) (high-is t u) (s .pre .1 .0 .good) shallow (low-done t d .counted) (high-done t c .counted)
+    counted-adds _ _ _ _ (halved t (to-halved t l)) (l .lower .ensures) (u .upper .ensures) (good t s) shallow (low-done t d .counted) (high-done t c .counted)
 
 -- ---- the cell's count and its bytes
 fill-same-length-3 : (t : ℕ) → fill-lts.Need-same-length-3 (claims t) (fill-at t) fill.Post
@@ -362,21 +335,21 @@ records g d k b = recordsOf g (cells (settled g) longest d k b)
 fill-returns-4 : (t : ℕ) → fill-lts.Need-returns-4 (claims t) (fill-at t) fill.Post
 fill-returns-4 t c =
     let p = c .before .before .before in
-    let e = p .before .before .before .before .before in
-    let s = of-cell t (e .before) in
-    let a = s .args in
+    let n = p .before .before .before in
+    let e = n .before in
+    let k = of-cell t (e .before) in
+    let a = start t k .args in
     let at = cell t (e .before) in
-    let one = at .tree .leaves1 in (
-      is-done _ _ _ _ _ (omega (arith, one, e .if1 .left)) (c .cell .ensures ∙ sym (counted-cell _ _ _ _ at)),
-      λ q. placed-cell (a .t .now) (a .slot) (a .fresh) (a .last) (a .after) (p .put-cell .ensures) (p .before .before .before .named .ensures) one
-          (records-cell _ _ _ _ _ at (p .before .number .ensures)),
-    )
+    let one = at .tree .leaves1 in
+    let bytes = placed-cell (a .t .now) (a .slot) (a .fresh) (a .last) (a .after) (p .put-cell .ensures) (n .named .ensures) one
+    (records-cell _ _ _ _ _ at (p .before .number .ensures)) in
+    (is-done _ _ _ _ _ (omega (arith, one, e .if1 .left)) (c .cell .ensures ∙ sym (counted-cell _ _ _ _ at)), ((λ q. bytes), k .look .ensures .1))
 
 -- ---- the counts of both halves and their bytes
 fill-same-length-4 : (t : ℕ) → fill-lts.Need-same-length-4 (claims t) (fill-at t) fill.Post
 fill-same-length-4 t c =
     let f = to-high-filled t (c .before) in
-    f .fill2 .kept .1 .1 .1 .1 .0 ∙ to-low-filled t (to-low-done t (to-upper t f)) .fill .kept .1 .1 .1 .1 .0
+    f .fill2 .kept .1 .1 .1 .1 .1 .0 ∙ to-low-filled t (to-low-done t (to-upper t f)) .fill .kept .1 .1 .1 .1 .1 .0
 
 fill-returns-5 : (t : ℕ) → fill-lts.Need-returns-5 (claims t) (fill-at t) fill.Post
 fill-returns-5 t c =
@@ -385,55 +358,55 @@ fill-returns-5 t c =
     let d = to-low-done t u in
     let first = to-low-filled t d in
     let l = done-lower t d in
-    let a = of-lower t l .args in
+    let s = of-lower t l in
+    let a = s .args in
+    let g = leaf t s in
     let h = halved t (to-halved t l) in
-    let low = boxOf (l .beside .result .b) in
-    let high = boxOf (u .beside2 .result .b) in
+    let low = boxOf (l .lower .result .b) in
+    let high = boxOf (u .upper .result .b) in
     let ld = low-done t d in
     let hd = high-done t (c .before) in
-    let sum = h .leaves2 (low-is t l) (high-is t u) in
+    let sum = h .leaves2 (l .lower .ensures) (u .upper .ensures) in
     let n = low-cells t d in
     let k = a .depth - 1 in
     let j = a .limit - k in
-    let deeper : j ≡ suc (a .limit - a .depth) = omega (arith, depth-left t (of-lower t l), h .left) in (
-      is-done _ _ _ _ _ (omega (arith, hd .fits, sum, first .fill .kept .1 .1 .1 .1 .0, n, low-least t l))
-          (c .joined .ensures ∙ counted-halves _ _ _ _ h (low-is t l) (high-is t u) (ld .counted) (hd .counted)),
-      λ q. placed-halves (a .t .now) (a .slot) (a .fresh) (a .last) (a .after) (records (a .g) k j low) (records (a .g) k j high)
-          (records-leaves inUse (a .g) k j low) (records-leaves inUse (a .g) k j high) (low-least t l) (leaves-least (settled (a .g)) longest k high)
-          sum (ap (λ (m : ℕ). a .fresh + m - 1) n) (records-halves _ _ _ j _ low high _ h deeper (low-is t l) (high-is t u))
-          (first .fill .ensures .1 (ld .fits)) (second .fill2 .ensures .1 (hd .fits)),
+    let deeper : j ≡ suc (a .limit - a .depth) = omega (arith, depth-left t s, h .left) in
+    let bytes = placed-halves (a .t .now) (a .slot) (a .fresh) (a .last) (a .after) (records g k j low) (records g k j high)
+    (records-leaves inUse g k j low) (records-leaves inUse g k j high) (low-least t l) (leaves-least (settled g) longest k high)
+    sum (ap (λ (m : ℕ). a .fresh + m - 1) n) (records-halves _ _ _ j _ low high _ h deeper (l .lower .ensures) (u .upper .ensures))
+    (first .fill .ensures .1 .0 (ld .fits)) (second .fill2 .ensures .1 .0 (hd .fits)) in (
+      is-done _ _ _ _ _ (omega (arith, hd .fits, sum, first .fill .kept .1 .1 .1 .1 .1 .0, n, low-least t l))
+          (c .joined .ensures ∙ counted-halves _ _ _ _ h (l .lower .ensures) (u .upper .ensures) (ld .counted) (hd .counted)),
+      ((λ q. bytes), second .fill2 .ensures .1 .1),
     )
 
 pub +fill-spec : {M : Type 1} → statement M
 +fill-spec = close μ-fill λ t. fill-lts.spec (claims t)
     (fill-at t)
     fill.Post
-    (fill-enum-known-step t)
+    (fill-look-requires t)
+    (λ c. search needs)
     (fill-returns t)
     (λ _ _. tt)
     (λ _ _. tt)
     (fill-sub-put-cell t)
     (fill-put-cell-requires t)
     (fill-cell-requires t)
-    (fill-enum-known-step-2 t)
+    (λ c. search needs)
     (fill-sub-left t)
     (fill-lower-requires t)
-    (fill-beside-requires t)
-    (fill-look-requires t)
     (fill-fill-requires t)
-    (fill-enum-known-low t)
-    (fill-enum-told t)
+    (λ c. search needs)
+    (λ c. search needs)
     (fill-same-length t)
     (fill-returns-2 t)
     (fill-add-mid t)
     (fill-sub-mid t)
     (fill-upper-requires t)
-    (fill-beside-requires-2 t)
-    (fill-look-requires-2 t)
     (fill-add-fill t)
     (fill-fill-requires-2 t)
-    (fill-enum-known-high t)
-    (fill-enum-told-2 t)
+    (λ c. search needs)
+    (λ c. search needs)
     (fill-same-length-2 t)
     (fill-returns-3 t)
     (fill-joined-requires t)
