@@ -1,25 +1,66 @@
-//! The walk's speed: ours, which makes one pass, the one in two passes, and the plain one over the original's box state,
-//! in turns.
+//! The walk's speed over six boxes: ours, which makes one pass, the one in two passes, and the plain one over the
+//! original's box state, in turns.
 
 use crate::entries::*;
 use crate::walk;
 use gyroid_cells::raw;
 use reference::Leaf;
 use request::{Call, Request, SLOT, unwritten};
+use std::hint::black_box;
 use std::time::{Duration, Instant};
 
+/// Odd, so that one time stands in the middle.
 const ROUNDS: usize = 5;
 
-/// Two periods each way, at a constant level and on a ramp along all of x; more than 100,000 cells each.
-pub fn cases() -> [(&'static str, Request); 2] {
-    let mut constant = Request::new(Call::Walk, PLAIN);
-    constant.whole = [0, 0, 0, 20480, 20480, 20480];
-    constant.depth = 19;
-    constant.table = SLOT << 18;
-    let mut linear = constant;
+/// A walk to be timed.
+pub struct Case {
+    pub name: &'static str,
+    pub request: Request,
+    /// How often a side makes the walk in one round: many times where one walk is too short for the clock.
+    pub repeated: u32,
+}
+
+/// A walk of a network at a constant level, with a table of so many slots.
+fn constant(whole: [i64; 6], depth: i64, slots: usize) -> Request {
+    Request { whole, depth, table: SLOT * slots, ..Request::new(Call::Walk, PLAIN) }
+}
+
+/// Two periods each way; more than 100,000 cells.
+fn core() -> Request {
+    constant([0, 0, 0, 20480, 20480, 20480], 19, 1 << 18)
+}
+
+/// The same on a ramp along all of x; more than 100,000 cells too.
+fn linear() -> Request {
+    let mut linear = core();
     let d = &mut linear.description;
     (d[LEVEL_KIND], d[TO], d[START], d[END]) = (LINEAR, 20480, -RAMP, RAMP);
-    [("constant", constant), ("linear", linear)]
+    linear
+}
+
+/// A box whose spans are no powers of two, nor is its period; its ramp along z starts below it and ends inside it.
+fn odd() -> Request {
+    let mut odd = constant([-4001, -333, 777, 20011, 19001, 30333], 17, 1 << 17);
+    let d = &mut odd.description;
+    (d[PERIOD], d[LEVEL_KIND], d[START], d[END]) = (9973, LINEAR, -112, 212);
+    d[FROM..START].copy_from_slice(&[17, 33, 5, 17, 33, 20011]);
+    odd
+}
+
+/// Two cores of more than 100,000 cells, then boxes of other shapes, the last of which is one cell.
+pub fn cases() -> [Case; 6] {
+    let once = |name, request| Case { name, request, repeated: 1 };
+    let plate = constant([0, 0, 0, 81920, 81920, 640], 18, 1 << 17);
+    let needle = constant([0, 0, 0, 64, 64, 1_000_000], 17, 1 << 13);
+    let single = constant([0, 0, 0, 512, 512, 512], 0, 4);
+    [
+        once("constant", core()),
+        once("linear", linear()),
+        once("plate", plate),
+        once("needle", needle),
+        once("odd", odd()),
+        Case { name: "single", request: single, repeated: 2000 },
+    ]
 }
 
 /// A walk that leaves a table and answers its status.
@@ -27,7 +68,7 @@ type Walk = fn(&Request, &mut [u8]) -> u32;
 /// The same as a function of C.
 type RawWalk = unsafe extern "C" fn(*const i64, usize, *const i64, usize, i64, *mut u8, usize) -> u32;
 
-/// Cells, and the best time of each side.
+/// Cells, and the median time of each side.
 pub struct Race {
     pub cells: u32,
     pub one_pass: Duration,
@@ -36,7 +77,8 @@ pub struct Race {
 }
 
 unsafe extern "C" {
-    /// The walk of crates/twice, which counts the whole tree before it writes. It takes and answers what `gyroid_walk` does.
+    /// The walk of crates/twice, which counts the whole tree before it writes. It takes and answers what `gyroid_walk`
+    /// does.
     fn gyroid_walk_twice(
         description: *const i64,
         description_length: usize,
@@ -71,10 +113,32 @@ fn original(request: &Request, table: &mut [u8]) -> u32 {
     leaf.map_or(raw::NONE, |leaf| walk::fill(&leaf, &request.whole, request.depth, table))
 }
 
-fn timed(walk: Walk, request: &Request, table: &mut [u8]) -> Duration {
+/// The time of one walk: that of all the walks of a round, divided by their number.
+fn timed(walk: Walk, case: &Case, table: &mut [u8]) -> Duration {
+    // Which walk it is stays hidden from the compiler, so that it leaves out no repetition.
+    let walk = black_box(walk);
     let start = Instant::now();
-    walk(request, table);
-    start.elapsed()
+    for _ in 0..case.repeated {
+        walk(&case.request, table);
+    }
+    start.elapsed() / case.repeated
+}
+
+/// The time in the middle of an odd number of times.
+fn median(mut times: Vec<Duration>) -> Duration {
+    times.sort_unstable();
+    times[times.len() / 2]
+}
+
+/// The median time of each side. In each round every side has its turn, so that a slow spell of the machine meets all.
+fn medians(sides: &[Walk], case: &Case, table: &mut [u8]) -> Vec<Duration> {
+    let mut times = vec![vec![]; sides.len()];
+    for _ in 0..ROUNDS {
+        for (side, times) in sides.iter().zip(&mut times) {
+            times.push(timed(*side, case, table));
+        }
+    }
+    times.into_iter().map(median).collect()
 }
 
 /// The table of a walk; the error says why there is none.
@@ -87,21 +151,16 @@ fn table(walk: Walk, request: &Request) -> Result<Vec<u8>, String> {
 }
 
 /// Races all sides on a walk; the error says why there is nothing to time.
-pub fn race(request: &Request) -> Result<Race, String> {
+pub fn race(case: &Case) -> Result<Race, String> {
     let mut sides: Vec<Walk> = vec![ours, twice];
     sides.extend(reference::AT_HAND.then_some(original as Walk));
-    let mut left = table(ours, request)?;
+    let mut left = table(ours, &case.request)?;
     for side in &sides[1..] {
-        if table(*side, request)? != left {
+        if table(*side, &case.request)? != left {
             return Err("the tables differ".into());
         }
     }
     let cells = gyroid_cells::Table::read(&left).ok_or("a table with a broken chain")?.head().cells;
-    let mut best = vec![Duration::MAX; sides.len()];
-    for _ in 0..ROUNDS {
-        for (side, best) in sides.iter().zip(&mut best) {
-            *best = timed(*side, request, &mut left).min(*best);
-        }
-    }
-    Ok(Race { cells, one_pass: best[0], two_passes: best[1], original: best.get(2).copied() })
+    let times = medians(&sides, case, &mut left);
+    Ok(Race { cells, one_pass: times[0], two_passes: times[1], original: times.get(2).copied() })
 }

@@ -6,23 +6,35 @@ use compare::{guard, stack};
 use std::process::ExitCode;
 use std::time::Duration;
 
-const HELP: &str = "bench: for each of two cores the time of a walk, which makes one pass, that of a walk in two
-passes, and their ratio, of which document 02 asks at most two thirds; then cells a second in one pass, ours and the
-original's, and their ratio. Then the time of a box_state by the bindings, which set the float state and restore it, and
-by the library itself; then the stack of a walk of depth 24
+const HELP: &str = "bench: for each of six boxes the time of a walk, which makes one pass, that of a walk in two
+passes, and their ratio, of which document 02 asks at most two thirds for a core of 100,000 cells or more, as the first
+two are; then cells a second in one pass, ours and the original's, and their ratio. Then the time of a box_state by the
+bindings, which set the float state and restore it, and by the library itself; then the stack of a walk of depth 24
 
-Each walk is made five times by each side, in turns, and the best time of each counts. The walk in two passes, to count
-the tree and to write it, is proved too, and kept for this alone. The original has no walk: a plain one over its
-box_state stands in, in one pass. All tables are compared before anything is timed.";
+The boxes: two cores, at a constant and at a linear level; a plate; a needle; an odd box, whose spans and period are no
+powers of two; and a single box, which is not halved and so is one cell.
+
+Each side has its turn in each of five rounds, and its median time counts. Our walk of the single box takes about a
+microsecond, so a turn makes it 2,000 times and divides; a turn makes every other walk once. Most of the original's time
+on the single box goes into compiling the description. The walk in two passes, to count the tree and to write it, is
+proved too, and kept for this alone. The original has no walk: a plain one over its box_state stands in, in one pass.
+All tables are compared before anything is timed.";
 
 fn a_second(cells: u32, time: Duration) -> f64 {
     f64::from(cells) / time.as_secs_f64()
 }
 
+/// A time in milliseconds; one below a millisecond in microseconds, to the nanosecond.
+fn in_units(time: Duration) -> String {
+    let seconds = time.as_secs_f64();
+    if seconds < 1e-3 { format!("{:.3} us", 1e6 * seconds) } else { format!("{:.1} ms", 1e3 * seconds) }
+}
+
 /// The times of one pass and of two.
 fn passes(race: &Race) -> String {
-    let [one, two] = [race.one_pass, race.two_passes].map(|time| time.as_secs_f64());
-    format!("one pass {:.1} ms, two passes {:.1} ms, ratio {:.3}", 1e3 * one, 1e3 * two, one / two)
+    let [one, two] = [race.one_pass, race.two_passes].map(in_units);
+    let ratio = race.one_pass.as_secs_f64() / race.two_passes.as_secs_f64();
+    format!("one pass {one}, two passes {two}, ratio {ratio:.3}")
 }
 
 /// The speeds of one pass, ours and the original's.
@@ -51,8 +63,8 @@ fn said(line: Result<String, String>, name: &str) -> bool {
 
 fn bench() -> ExitCode {
     let mut all = true;
-    for (name, request) in cases() {
-        all &= said(race(&request).map(|race| line(name, &race)), name);
+    for case in cases() {
+        all &= said(race(&case).map(|race| line(case.name, &race)), case.name);
     }
     let cost = guard::cost();
     let [guarded, plain] = [cost.guarded, cost.plain].map(|time| time.as_nanos());
