@@ -27,7 +27,7 @@
  *   alignment  The library needs none: its code reads and writes entries at any address, and is tested at odd ones.
  *              The proofs speak of entries where C has them, int64_t and double at multiples of 8, and C itself asks
  *              for that. A table is bytes.
- *   stack      A walk of depth 24 takes 51,392 bytes of stack, measured; no heap.
+ *   stack      A walk of depth 24 takes 44,224 bytes of stack, measured; no heap.
  *
  * Every call answers a status:
  *
