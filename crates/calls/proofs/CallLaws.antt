@@ -11,16 +11,18 @@ use Rattle.interval.specs.Interval.{point}
 use Rattle.interval.specs.Encloses.{Small}
 use Rattle.interval.proofs.Small.{small-between}
 use Rattle.grade.specs.declared.PieceAnswer.{PieceAnswer}
-use Rattle.grade.specs.Grade.{Point, ticks}
+use Rattle.limits.specs.Ticks.{ticks, above}
+use Rattle.grade.specs.Grade.{Point}
 use Rattle.grade.specs.Exact.{compiled, exactPiece}
 use Rattle.grade.specs.Holds.{InBox, SaysLevel, OfTicks}
 use Rattle.grade.specs.Said.{Said, found, refusing, answered}
-use Rattle.grade.specs.Refusals.{refused, _orElse_, above}
+use Rattle.limits.specs.Refusals.{refused, _orElse_}
 use Rattle.grade.specs.Fits.{DefFits, Within3}
 use Rattle.grade.specs.InUse.{inUse}
-use Rattle.grade.proofs.Entries.{both, ticks-within}
+use Rattle.limits.proofs.TickLaws.{both}
+use Rattle.grade.proofs.EntryLaws.{ticks-within}
 use Rattle.grade.proofs.PieceLaws.{exact-piece-says}
-use Rattle.grade.proofs.RefusalLaws.{none-first, none-last, kept, neither}
+use Rattle.limits.proofs.RefusalLaws.{none-first, none-last, kept, neither}
 use Rattle.gyroid.specs.declared.Description.{Description}
 use Rattle.gyroid.specs.declared.Residual.{Residual}
 use Rattle.gyroid.specs.declared.State.{State}

@@ -18,14 +18,14 @@ use Rattle.interval.specs.Interval.{ordered}
 use Rattle.interval.specs.Encloses.{Small}
 use Rattle.interval.proofs.Small.{double, double-value, small-abs, small-finite, small-more, finite-neg, value-neg}
 use Rattle.interval.proofs.Compare.{value-le}
-use Rattle.grade.specs.Grade.{at, ticks}
-use Rattle.grade.specs.Refusals.{_orElse_, above}
+use Rattle.limits.specs.Ticks.{at, ticks, above}
+use Rattle.limits.specs.Refusals.{_orElse_}
 use Rattle.grade.specs.Said.{found, answered}
 use Rattle.grade.specs.Intervals.{boxAt}
 use Rattle.grade.specs.InUse.{inUse}
 use Rattle.grade.proofs.Axes.{three}
 use Rattle.grade.proofs.AxisLaws.{within-at}
-use Rattle.grade.proofs.Entries.{not-either, ticks-within}
+use Rattle.grade.proofs.EntryLaws.{not-either, ticks-within}
 use Rattle.gyroid.specs.declared.Description.{Description}
 use Rattle.gyroid.specs.declared.Residual.{Residual}
 use Rattle.gyroid.specs.declared.State.{State}

@@ -14,11 +14,12 @@ use Rattle.grade.specs.declared.Piece.{Piece}
 use Rattle.grade.specs.declared.Piece.the-variants.{Start, Ramp, End}
 use Rattle.grade.specs.declared.PieceAnswer.{PieceAnswer}
 use Rattle.grade.specs.declared.Planes.{Planes}
-use Rattle.grade.specs.Grade.{Point, ticks}
+use Rattle.limits.specs.Ticks.{ticks, above}
+use Rattle.grade.specs.Grade.{Point}
 use Rattle.grade.specs.Exact.{compiled, exactPiece}
 use Rattle.grade.specs.Certified.{planes}
 use Rattle.grade.specs.Fast.{fast}
-use Rattle.grade.specs.Refusals.{refused, _orElse_, above}
+use Rattle.limits.specs.Refusals.{refused, _orElse_}
 use Rattle.grade.specs.Holds as grade
 use Rattle.grade.specs.Said.{Said, found, refusing, answered}
 use Rattle.gyroid.specs.declared.Surface.{Surface}

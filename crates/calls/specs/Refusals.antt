@@ -8,7 +8,7 @@ use lib.Ieee.{Float}
 use Rattle.interval.specs.declared.Interval.{Interval}
 use Rattle.interval.specs.Step.{b64}
 use Rattle.interval.specs.Interval.{ordered}
-use Rattle.grade.specs.Refusals.{refused, _orElse_}
+use Rattle.limits.specs.Refusals.{refused, _orElse_}
 use Rattle.gyroid.specs.Refusals.{endsWithin, every, allFinite}
 
 -- 2^40

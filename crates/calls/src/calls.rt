@@ -23,14 +23,14 @@ use crate::floats::triangle_refusal;
 use crate::hessian;
 use grade::LevelKind;
 use grade::Piece;
-use grade::limits::above;
-use grade::limits::ticks;
-use grade::refusals::or_else;
-use grade::refusals::refused;
 use gyroid::Description;
 use gyroid::Gyroid;
 use gyroid::Jet;
 use interval::Interval;
+use limits::refusals::or_else;
+use limits::refusals::refused;
+use limits::ticks::above;
+use limits::ticks::ticks;
 
 // Whether the level is a ramp.
 pub fn graded(description: Description) -> TruthAnswer

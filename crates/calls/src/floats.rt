@@ -4,10 +4,10 @@ ghost use Rattle.interval.specs.Interval.{ordered};
 ghost use Rattle.gyroid.specs.Refusals.{endsWithin};
 ghost use Rattle.calls.specs.Refusals.{farthest, allOrdered, allNear, boxRefusal, finiteBoxRefusal, triangleRefusal};
 ghost use Rattle.calls.specs.Calls.{pointBox};
-use grade::refusals::or_else;
-use grade::refusals::refused;
 use gyroid::floats::all_finite;
 use interval::Interval;
+use limits::refusals::or_else;
+use limits::refusals::refused;
 
 // No end or point of a call's float input may lie beyond it.
 const FARTHEST: f64 = 1_099_511_627_776.0;

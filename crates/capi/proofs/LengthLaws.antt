@@ -5,8 +5,8 @@ use Prim.Native.Nat.{ℕ, _≤_}
 use native.Mathlib.Nat.{le-refl}
 use borrow.Author.Tests.{ltb-false, eq-eqb, le-ltb}
 use lib.Dec.{T, eqb, ltb, eqb→eq}
-use Rattle.grade.specs.Refusals.{refused, _orElse_}
-use Rattle.grade.proofs.RefusalLaws.{none-first, none-last, kept}
+use Rattle.limits.specs.Refusals.{refused, _orElse_}
+use Rattle.limits.proofs.RefusalLaws.{none-first, none-last, kept}
 use Rattle.capi.specs.Lent.{lengths}
 
 not-false : (b : Bool) → T (not b) → b ≡ false

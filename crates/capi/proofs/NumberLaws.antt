@@ -15,7 +15,7 @@ use lib.Signed.{mag}
 use Rattle.exact.proofs.Signed.{back}
 use Rattle.grade.specs.declared.Piece.{Piece}
 use Rattle.grade.specs.declared.Piece.the-variants.{Start, Ramp, End}
-use Rattle.grade.specs.Grade.{at}
+use Rattle.limits.specs.Ticks.{at}
 use Rattle.gyroid.specs.declared.State.{State}
 use Rattle.gyroid.specs.declared.State.the-variants.{Inside, Outside, Unsettled}
 use Rattle.gyroid.specs.Residual.{stateNumber}

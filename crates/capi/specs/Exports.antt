@@ -11,7 +11,7 @@ use Rattle.interval.specs.declared.Interval.{Interval}
 use Rattle.grade.specs.declared.Piece.{Piece}
 use Rattle.grade.specs.declared.Piece.the-variants.{Start, Ramp, End}
 use Rattle.grade.specs.Intervals.{boxAt}
-use Rattle.grade.specs.Refusals.{refused, _orElse_}
+use Rattle.limits.specs.Refusals.{refused, _orElse_}
 use Rattle.grade.specs.Calls.{rangeCall}
 use Rattle.grade.specs.Said.{Said, found, refusing, answered}
 use Rattle.gyroid.specs.declared.Jet.{Jet}

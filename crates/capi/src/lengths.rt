@@ -1,8 +1,8 @@
 // What the lengths of the slices lent to a call refuse.
 ghost use mathlib.Core.Path.{_≡_};
 ghost use Rattle.capi.specs.Lent.{lengths};
-use grade::refusals::or_else;
-use grade::refusals::refused;
+use limits::refusals::or_else;
+use limits::refusals::refused;
 
 // A lent slice has the wrong length.
 const LENGTH: u32 = 101;

@@ -43,8 +43,8 @@ use calls::calls::planes;
 use calls::calls::residual;
 use calls::calls::saturated;
 use grade::range::grade_range;
-use grade::refusals::or_else;
-use grade::refusals::refused;
+use limits::refusals::or_else;
+use limits::refusals::refused;
 use walk::calls::walk;
 
 // 1 or 0.

@@ -14,12 +14,15 @@ use Rattle.exact.proofs.IntegerOrder.{zarith, sum-parts, square-nonnegℤ, squa
 use Rattle.grade.specs.declared.Grade.{Grade}
 use Rattle.grade.specs.declared.GradeDef.{GradeDef}
 use Rattle.grade.specs.declared.LevelKind.{LevelKind}
-use Rattle.grade.specs.Grade.{at, ticks, inLimits, eqZ, isLinear, minus, dot, direction, lengthSq}
+use Rattle.limits.specs.Ticks.{at, ticks, above}
+use Rattle.grade.specs.Grade.{inLimits, eqZ, isLinear, minus, dot, direction, lengthSq}
 use Rattle.grade.specs.Exact.{linearOf, numbers, constantDef, compiled}
-use Rattle.grade.specs.Refusals.{refused, _orElse_, above, same, isDistance, coincident, rangeRefusal}
+use Rattle.limits.specs.Refusals.{refused, _orElse_}
+use Rattle.grade.specs.Refusals.{same, isDistance, coincident, rangeRefusal}
 use Rattle.grade.specs.Fits.{Within3, InLimits, DefFits}
-use Rattle.grade.proofs.Entries.{both, ticks-within, Sizes, sizes}
-use Rattle.grade.proofs.RefusalLaws.{none-first, none-last, kept}
+use Rattle.limits.proofs.TickLaws.{both}
+use Rattle.grade.proofs.EntryLaws.{ticks-within, Sizes, sizes}
+use Rattle.limits.proofs.RefusalLaws.{none-first, none-last, kept}
 use Rattle.grade.proofs.Sizes.{minus-within, dot-within}
 
 -- what `grade_range` has tested

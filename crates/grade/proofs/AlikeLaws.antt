@@ -11,7 +11,7 @@ use Rattle.interval.proofs.Alike.{SameEnds, same-ends, sub-same, mul-same}
 use Rattle.grade.specs.declared.GradeDef.{GradeDef}
 use Rattle.grade.specs.declared.LevelKind.{LevelKind}
 use Rattle.grade.specs.declared.LinearIntervals.{LinearIntervals}
-use Rattle.grade.specs.Grade.{at}
+use Rattle.limits.specs.Ticks.{at}
 use Rattle.grade.specs.Fits.{DefFits}
 use Rattle.grade.specs.Intervals.{unit, units, boxAt, linearIntervals, gradeIntervals, alongAxis, parameterOf, parameter, interval, affine, piece}
 use Rattle.grade.proofs.AxisLaws.{within-at}

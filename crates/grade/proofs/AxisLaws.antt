@@ -18,13 +18,14 @@ use Rattle.grade.specs.declared.LevelKind.{LevelKind}
 use Rattle.grade.specs.declared.Axis.{Axis}
 use Rattle.grade.specs.declared.Axis.the-variants.{One}
 use Rattle.grade.specs.declared.Planes.{Planes}
-use Rattle.grade.specs.Grade.{at, eqZ, minus, dot}
+use Rattle.limits.specs.Ticks.{at}
+use Rattle.grade.specs.Grade.{eqZ, minus, dot}
 use Rattle.grade.specs.Exact.{linearOf, numbers, constantDef, compiled}
 use Rattle.grade.specs.Certified.{only, axisOf, axis, isOne, axisBy, defAxis, planesOn, planes, size, distance}
 use Rattle.grade.specs.Fits.{Within3}
 use Rattle.grade.specs.Extended.{positions}
 use Rattle.grade.proofs.Axes.{three}
-use Rattle.grade.proofs.Entries.{both}
+use Rattle.limits.proofs.TickLaws.{both}
 use Rattle.grade.proofs.Accepted.{by-kind}
 
 -- ---- it is below 3

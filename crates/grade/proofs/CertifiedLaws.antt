@@ -12,13 +12,14 @@ use Rattle.exact.proofs.IntegerOrder.{zarith, ≤ℤ-antisym, <ℤ-le, sub-pos,
 use Rattle.grade.specs.declared.Linear.{Linear}
 use Rattle.grade.specs.declared.GradeDef.{GradeDef}
 use Rattle.grade.specs.declared.LevelKind.{LevelKind}
-use Rattle.grade.specs.Grade.{at, eqZ}
-use Rattle.grade.specs.Refusals.{refused, _orElse_}
+use Rattle.limits.specs.Ticks.{at}
+use Rattle.grade.specs.Grade.{eqZ}
+use Rattle.limits.specs.Refusals.{refused, _orElse_}
 use Rattle.grade.specs.Certified.{only, axisOf, axis, isOne, size, distance, rise, slopeBy, slopeBound, ending, linearCertification, certificationBy, certification}
 use Rattle.grade.specs.Fits.{DefFits, SlopeFits}
-use Rattle.grade.proofs.Entries.{both}
+use Rattle.limits.proofs.TickLaws.{both}
 use Rattle.grade.proofs.Accepted.{same-yes, first, second, third}
-use Rattle.grade.proofs.RefusalLaws.{none-first, kept}
+use Rattle.limits.proofs.RefusalLaws.{none-first, kept}
 use Rattle.grade.proofs.Sizes.{distance-within, rise-within}
 
 not-below : (z : ℤ) → T (not (ltZ z (pos 0))) → pos 0 ≤ℤ z

@@ -12,7 +12,8 @@ use Rattle.exact.proofs.IntegerOrder.{<ℤ-le}
 use Rattle.exact.proofs.Fraction.{≤F-refl, ≤F-trans, ≈F-refl, ≈F-trans, ≈F-le, ≈F-ge, add-monoF, sub-monoF, mul-monoF, mul-antiF}
 use Rattle.exact.proofs.Fraction.{commF, add-congF, mul-congF, whole-add, whole-sub, whole-mul}
 use Rattle.grade.specs.declared.Linear.{Linear}
-use Rattle.grade.specs.Grade.{at, minus, dot, Point, along}
+use Rattle.limits.specs.Ticks.{at}
+use Rattle.grade.specs.Grade.{minus, dot, Point, along}
 use Rattle.grade.specs.Exact.{leastEnd, greatestEnd, leastCorner, greatestCorner, leastAlong, greatestAlong}
 use Rattle.grade.specs.Holds.{InBox}
 use Rattle.grade.proofs.Axes.{three}

@@ -31,7 +31,8 @@ use Rattle.grade.specs.declared.Grade.{Grade}
 use Rattle.grade.specs.declared.LinearIntervals.{LinearIntervals}
 use Rattle.grade.specs.declared.GradeDef.{GradeDef}
 use Rattle.grade.specs.declared.LevelKind.{LevelKind}
-use Rattle.grade.specs.Grade.{at, direction, lengthSq, Point, along, t, rampLevel, level}
+use Rattle.limits.specs.Ticks.{at}
+use Rattle.grade.specs.Grade.{direction, lengthSq, Point, along, t, rampLevel, level}
 use Rattle.grade.specs.Exact.{linearOf, numbers, constantDef, compiled}
 use Rattle.grade.specs.Refusals.{coincident}
 use Rattle.grade.specs.Fits.{Within3, InLimits}
@@ -40,7 +41,8 @@ use Rattle.grade.specs.Intervals.{pieceOf, piece}
 use Rattle.grade.specs.Holds.{SaysLevel}
 use Rattle.grade.specs.Extended.{Says, affineLevel, inUnits}
 use Rattle.grade.proofs.Axes.{three}
-use Rattle.grade.proofs.Entries.{both, Sizes, sizes}
+use Rattle.limits.proofs.TickLaws.{both}
+use Rattle.grade.proofs.EntryLaws.{Sizes, sizes}
 use Rattle.grade.proofs.Sizes.{minus-within, dot-within}
 use Rattle.grade.proofs.AxisLaws.{within-at}
 use Rattle.grade.proofs.Accepted.{linear-apart, by-kind}

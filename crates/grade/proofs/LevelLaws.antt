@@ -19,7 +19,7 @@ use Rattle.grade.specs.declared.Grade.{Grade}
 use Rattle.grade.specs.Grade.{eqZ, isLinear, lengthSq, Point, t, rampLevel, level}
 use Rattle.grade.specs.Exact.{held, linearOf, numbers, levelOver}
 use Rattle.grade.specs.Extended.{affineLevel}
-use Rattle.grade.proofs.Entries.{both}
+use Rattle.limits.proofs.TickLaws.{both}
 use Rattle.exact.proofs.Size.{size-above}
 
 -- ---- start + x (end − start)

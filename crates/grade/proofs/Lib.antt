@@ -1,7 +1,6 @@
 -- The laws of the grade layer. The layers above cite what is `pub` here; the rest serves its proofs. Assumes nothing.
 -- an accepted level, and its entries' sizes
-pub mod RefusalLaws
-pub mod Entries
+pub mod EntryLaws
 pub mod Axes
 pub mod Accepted
 -- the level, the range, the piece: exact, over every rational point

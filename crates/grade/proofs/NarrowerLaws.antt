@@ -23,7 +23,7 @@ use Rattle.grade.specs.Refusals.{coincident}
 use Rattle.grade.specs.Fits.{InLimits}
 use Rattle.grade.specs.Intervals.{unit, zero, linearIntervals, gradeIntervals, boxAt, alongAxis, parameterOf, parameter, levelOf}
 use Rattle.grade.specs.Intervals.{interval, affine, gradient, pieceGradient}
-use Rattle.grade.proofs.Entries.{Sizes, sizes}
+use Rattle.grade.proofs.EntryLaws.{Sizes, sizes}
 use Rattle.grade.proofs.Accepted.{linear-apart, by-kind}
 use Rattle.grade.proofs.IntervalLaws.{unit-encloses, from-encloses, direction-encloses, length-encloses, length-apart}
 

@@ -18,7 +18,7 @@ use Rattle.grade.specs.Exact.{linearOf, numbers, constantDef, compiled, 
 use Rattle.grade.specs.Refusals.{coincident}
 use Rattle.grade.specs.Holds.{InBox, SaysLevel}
 use Rattle.grade.specs.Extended.{Says, affineLevel}
-use Rattle.grade.proofs.Entries.{both}
+use Rattle.limits.proofs.TickLaws.{both}
 use Rattle.grade.proofs.Accepted.{linear-apart, by-kind}
 use Rattle.grade.proofs.LevelLaws.{ramp-cong, ramp-zero, ramp-one, level-linear, level-flat, affine-linear, affine-flat, length-pos, over-length}
 use Rattle.grade.proofs.CornerLaws.{along-least, along-greatest}

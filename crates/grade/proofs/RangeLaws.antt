@@ -12,7 +12,8 @@ use Rattle.exact.proofs.IntegerOrder.{<ℤ-le, ≤ℤ-trans}
 use Rattle.exact.proofs.Fraction.{≤F-trans, ≈F-sym, ≈F-trans, ≈F-le, ≈F-ge, over-mono, over-cong, over-one, whole-le}
 use Rattle.exact.proofs.FractionSize.{held-mono, held-cong}
 use Rattle.grade.specs.declared.Grade.{Grade}
-use Rattle.grade.specs.Grade.{at, eqZ, isLinear, direction, lengthSq, Point, along, t, rampLevel, level}
+use Rattle.limits.specs.Ticks.{at}
+use Rattle.grade.specs.Grade.{eqZ, isLinear, direction, lengthSq, Point, along, t, rampLevel, level}
 use Rattle.grade.specs.Exact.{linearOf, numbers, constantDef, compiled}
 use Rattle.grade.specs.Exact.{leastCorner, greatestCorner, leastAlong, greatestAlong, levelOver, boundsOf, linearRange, range}
 use Rattle.grade.specs.Refusals.{coincident}

@@ -9,7 +9,8 @@ use Rattle.exact.specs.Within.{Within}
 use Rattle.exact.proofs.Choice.{choose}
 use Rattle.exact.proofs.Size.{within-add, within-sub, within-mul, within-neg, within-zero}
 use Rattle.grade.specs.declared.Linear.{Linear}
-use Rattle.grade.specs.Grade.{at, minus, dot}
+use Rattle.limits.specs.Ticks.{at}
+use Rattle.grade.specs.Grade.{minus, dot}
 use Rattle.grade.specs.Exact.{leastEnd, leastCorner, leastAlong, greatestCorner, greatestAlong, held, levelOver}
 use Rattle.grade.specs.Certified.{size, distance, rise}
 use Rattle.grade.specs.Fits.{Within3, LinearFits}

@@ -18,14 +18,15 @@ use Rattle.interval.proofs.Encloses.{fraction-encloses}
 use Rattle.grade.specs.declared.Grade.{Grade}
 use Rattle.grade.specs.declared.Piece.{Piece}
 use Rattle.grade.specs.declared.Piece.the-variants.{Start, Ramp, End}
-use Rattle.grade.specs.Grade.{at, eqZ, isLinear, direction, lengthSq, Point, along, t}
+use Rattle.limits.specs.Ticks.{at}
+use Rattle.grade.specs.Grade.{eqZ, isLinear, direction, lengthSq, Point, along, t}
 use Rattle.grade.specs.Exact.{linearOf, numbers, constantDef, compiled}
 use Rattle.grade.specs.Refusals.{coincident}
 use Rattle.grade.specs.Fits.{InLimits}
 use Rattle.grade.specs.Intervals.{slopes, slopeAlong, linearIntervals, gradeIntervals, boxAt, zeros, gradient, pieceGradient}
 use Rattle.grade.specs.Extended.{affineLevel, slope, pieceSlope}
 use Rattle.grade.proofs.Axes.{three}
-use Rattle.grade.proofs.Entries.{sizes}
+use Rattle.grade.proofs.EntryLaws.{sizes}
 use Rattle.grade.proofs.Sizes.{minus-within}
 use Rattle.grade.proofs.AxisLaws.{within-at}
 use Rattle.grade.proofs.Accepted.{linear-apart, by-kind}

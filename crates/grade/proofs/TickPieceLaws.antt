@@ -22,13 +22,14 @@ use Rattle.interval.proofs.Small.{small-finite}
 use Rattle.interval.proofs.Compare.{le-value, value-le, equal-tests}
 use Rattle.interval.proofs.Narrower.{low-end, high-end}
 use Rattle.grade.specs.declared.Grade.{Grade}
-use Rattle.grade.specs.Grade.{at, direction, lengthSq, t}
+use Rattle.limits.specs.Ticks.{at}
+use Rattle.grade.specs.Grade.{direction, lengthSq, t}
 use Rattle.grade.specs.Exact.{linearOf, numbers, constantDef, compiled, leastCorner, greatestCorner, leastAlong, greatestAlong, chosen}
 use Rattle.grade.specs.Refusals.{coincident}
 use Rattle.grade.specs.Fits.{InLimits}
 use Rattle.grade.specs.Intervals.{linearIntervals, gradeIntervals, boxAt, parameter, pieceOf, piece}
 use Rattle.grade.specs.Extended.{inUnits, WholeTicks}
-use Rattle.grade.proofs.Entries.{Sizes, sizes}
+use Rattle.grade.proofs.EntryLaws.{Sizes, sizes}
 use Rattle.grade.proofs.Accepted.{linear-apart, by-kind}
 use Rattle.grade.proofs.LevelLaws.{length-pos, length-is}
 use Rattle.grade.proofs.CornerLaws.{along-whole, least-ends, greatest-ends}

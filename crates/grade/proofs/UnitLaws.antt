@@ -26,11 +26,12 @@ use Rattle.interval.proofs.Narrower.{Sized, sized, low-end}
 use Rattle.interval.proofs.Grid.{mostUnits, Near, exact-near, fraction-near, sum-near, difference-near}
 use Rattle.interval.proofs.Grid.{product-below, product-above, product-near, quotient-high, quotient-low}
 use Rattle.grade.specs.declared.Grade.{Grade}
-use Rattle.grade.specs.Grade.{at, minus, dot, direction, lengthSq}
+use Rattle.limits.specs.Ticks.{at}
+use Rattle.grade.specs.Grade.{minus, dot, direction, lengthSq}
 use Rattle.grade.specs.Exact.{linearOf, numbers, leastEnd, greatestEnd, leastCorner, greatestCorner, leastAlong, greatestAlong}
 use Rattle.grade.specs.Intervals.{unit, units, zero, linearIntervals, boxAt, alongAxis, parameterOf, parameter}
 use Rattle.grade.specs.Extended.{WholeTicks}
-use Rattle.grade.proofs.Entries.{Sizes}
+use Rattle.grade.proofs.EntryLaws.{Sizes}
 use Rattle.grade.proofs.Sizes.{end-within}
 use Rattle.grade.proofs.AxisLaws.{within-at}
 use Rattle.grade.proofs.MarginLaws.{fine, coarse, corner-below, corner-above, EndsBetween, ordered-ends}

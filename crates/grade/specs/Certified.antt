@@ -11,8 +11,9 @@ use Rattle.grade.specs.declared.Axis.the-variants.{One}
 use Rattle.grade.specs.declared.Planes.{Planes}
 use Rattle.grade.specs.declared.Planes.the-variants.{Found}
 use Rattle.grade.specs.declared.Slope.{Slope}
-use Rattle.grade.specs.Grade.{at, eqZ}
-use Rattle.grade.specs.Refusals.{refused, _orElse_}
+use Rattle.limits.specs.Ticks.{at}
+use Rattle.grade.specs.Grade.{eqZ}
+use Rattle.limits.specs.Refusals.{refused, _orElse_}
 
 -- a alone is not 0
 abbrev pub only : ℤ → ℤ → ℤ → Bool

@@ -11,7 +11,8 @@ use Rattle.grade.specs.declared.LevelKind.{LevelKind}
 use Rattle.grade.specs.declared.Piece.the-variants.{Start, Ramp, End}
 use Rattle.grade.specs.declared.PieceAnswer.{PieceAnswer}
 use Rattle.grade.specs.declared.PieceAnswer.the-variants.{Found, None}
-use Rattle.grade.specs.Grade.{at, eqZ, isLinear, minus, dot, direction}
+use Rattle.limits.specs.Ticks.{at}
+use Rattle.grade.specs.Grade.{eqZ, isLinear, minus, dot, direction}
 
 -- ---- compiled: the linear level's numbers beside its kind
 unfoldable pub linearOf : List ℤ → List ℤ → ℤ → ℤ → Linear

@@ -16,7 +16,8 @@ use Rattle.grade.specs.declared.Axis.{Axis}
 use Rattle.grade.specs.declared.Axis.the-variants.{One}
 use Rattle.grade.specs.declared.Planes.{Planes}
 use Rattle.grade.specs.Holds.{OfTicks}
-use Rattle.grade.specs.Grade.{at, Point, isLinear, direction, lengthSq, t, rampLevel}
+use Rattle.limits.specs.Ticks.{at}
+use Rattle.grade.specs.Grade.{Point, isLinear, direction, lengthSq, t, rampLevel}
 use Rattle.grade.specs.Fits.{Within3}
 
 -- ---- what a piece says of t

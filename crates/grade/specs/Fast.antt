@@ -10,7 +10,7 @@ use Rattle.interval.specs.Nearest.{nearest}
 use Rattle.grade.specs.declared.Linear.{Linear}
 use Rattle.grade.specs.declared.GradeDef.{GradeDef}
 use Rattle.grade.specs.declared.LevelKind.{LevelKind}
-use Rattle.grade.specs.Grade.{at}
+use Rattle.limits.specs.Ticks.{at}
 
 -- ticks in millimetres, and level counts as levels
 abbrev pub near : ℤ → Float

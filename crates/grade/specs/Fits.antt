@@ -9,7 +9,8 @@ use Rattle.grade.specs.declared.Linear.{Linear}
 use Rattle.grade.specs.declared.Grade.{Grade}
 use Rattle.grade.specs.declared.GradeDef.{GradeDef}
 use Rattle.grade.specs.declared.Slope.{Slope}
-use Rattle.grade.specs.Grade.{at, inLimits}
+use Rattle.limits.specs.Ticks.{at}
+use Rattle.grade.specs.Grade.{inLimits}
 
 -- a vector of entries within n
 pub record Within3 (n : ℕ) (v : List ℤ) : Type 0 where

@@ -4,24 +4,14 @@ use mathlib.Core.Bool.{Bool, cond, _&&_}
 use mathlib.Core.List.{List, [], _∷_}
 use Prim.Native.Nat.{ℕ}
 use lib.IntN.{ℤ, pos, negsuc, natAbs, _+ℤ_, _-ℤ_, _*ℤ_}
-use lib.ListN.{getD}
 use lib.Signed.{leZ}
+use Rattle.limits.specs.Ticks.{at, ticks}
 use Rattle.exact.specs.Fraction.{Fraction, whole, oneF, _+F_, _-F_, _*F_, _/F_, heldF}
 use Rattle.grade.specs.declared.Grade.{Grade}
 
--- ---- "Coordinates .. are whole ticks .. from −2^20 to 2^20; levels are counts from −4096 to 4096."
-abbrev pub tick : ℤ → Bool
-tick z = leZ (negsuc 1048575) z && leZ z (pos 1048576)
-
+-- ---- "levels are counts from −4096 to 4096."
 abbrev pub count : ℤ → Bool
 count z = leZ (negsuc 4095) z && leZ z (pos 4096)
-
--- a vector's entry on an axis, 0 to 2
-abbrev pub at : List ℤ → ℕ → ℤ
-at v i = getD v i (pos 0)
-
-abbrev pub ticks : List ℤ → Bool
-ticks v = tick (at v 0) && tick (at v 1) && tick (at v 2)
 
 -- "level kind (0 constant, 1 linear, 2 distance)", "Limits bind unused entries too."
 unfoldable pub inLimits : Grade → Bool

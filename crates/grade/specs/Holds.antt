@@ -16,7 +16,8 @@ use Rattle.grade.specs.declared.Bounds.{Bounds}
 use Rattle.grade.specs.declared.Piece.the-variants.{Start, Ramp, End}
 use Rattle.grade.specs.declared.PieceAnswer.{PieceAnswer}
 use Rattle.grade.specs.declared.PieceAnswer.the-variants.{Found, None}
-use Rattle.grade.specs.Grade.{at, Point, t, rampLevel, level}
+use Rattle.limits.specs.Ticks.{at}
+use Rattle.grade.specs.Grade.{Point, t, rampLevel, level}
 use Rattle.grade.specs.Intervals.{boxAt}
 
 -- ---- a rational point of a box of whole ticks, its faces included

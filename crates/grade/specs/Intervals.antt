@@ -19,7 +19,7 @@ use Rattle.grade.specs.declared.Piece.{Piece}
 use Rattle.grade.specs.declared.Piece.the-variants.{Start, Ramp, End}
 use Rattle.grade.specs.declared.PieceAnswer.{PieceAnswer}
 use Rattle.grade.specs.declared.PieceAnswer.the-variants.{Found}
-use Rattle.grade.specs.Grade.{at}
+use Rattle.limits.specs.Ticks.{at}
 use Rattle.grade.specs.Exact.{chosen}
 
 -- ---- the constants. "A tick is 1/1024 mm; a level count is 1/1024."

@@ -1,25 +1,12 @@
--- Refusals by document 01's numbers: tests in the table's order, and the first that fails wins. Definitions only; assumes nothing.
-use mathlib.Core.Bool.{Bool, cond, not, _&&_, _||_}
+-- What document 01's table refuses of a level, and of `grade_range`. Definitions only; assumes nothing.
+use mathlib.Core.Bool.{Bool, not, _&&_}
 use mathlib.Core.List.{List}
 use Prim.Native.Nat.{ℕ}
-use lib.Dec.{eqb}
 use lib.IntN.{ℤ, pos}
-use lib.Signed.{ltZ}
+use Rattle.limits.specs.Refusals.{refused, _orElse_}
+use Rattle.limits.specs.Ticks.{at, ticks, above}
 use Rattle.grade.specs.declared.Grade.{Grade}
-use Rattle.grade.specs.Grade.{at, ticks, inLimits, eqZ, isLinear}
-
--- the number n where the test b says so; 0 is no refusal
-abbrev pub refused : Bool → ℕ → ℕ
-refused b n = cond b n 0
-
--- a refusal, or where it is none, the next
-infixr 5 _orElse_
-abbrev pub _orElse_ : ℕ → ℕ → ℕ
-first orElse next = cond (eqb first 0) next first
-
--- "a low above its high"
-abbrev pub above : List ℤ → List ℤ → Bool
-above lo hi = ltZ (at hi 0) (at lo 0) || ltZ (at hi 1) (at lo 1) || ltZ (at hi 2) (at lo 2)
+use Rattle.grade.specs.Grade.{inLimits, eqZ, isLinear}
 
 abbrev pub same : List ℤ → List ℤ → Bool
 same a b = eqZ (at a 0) (at b 0) && eqZ (at a 1) (at b 1) && eqZ (at a 2) (at b 2)

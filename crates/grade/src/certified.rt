@@ -9,9 +9,9 @@ use crate::LevelKind;
 use crate::Linear;
 use crate::Planes;
 use crate::Slope;
-use crate::limits::equal;
-use crate::refusals::or_else;
-use crate::refusals::refused;
+use crate::entries::equal;
+use limits::refusals::or_else;
+use limits::refusals::refused;
 
 // Whether the first alone is not 0.
 fn only(a: i64, b: i64, c: i64) -> bool

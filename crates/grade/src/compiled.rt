@@ -10,7 +10,7 @@ use crate::LevelKind;
 use crate::Linear;
 use crate::Piece;
 use crate::PieceAnswer;
-use crate::limits::equal;
+use crate::entries::equal;
 
 impl GradeDef {
     pub fn constant(level: i64) -> GradeDef

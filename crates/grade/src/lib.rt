@@ -1,8 +1,8 @@
 // The level of a core: its entries, the exact grade over whole numbers, the same in intervals and in doubles, and the public call
 // `grade_range`. Here stand the types. Each function equals its definition in specs/; proofs/ says what the answers hold for every
 // rational point of a box.
-pub mod limits; // which entries document 01 admits, and how entries compare
-pub mod refusals; // refusals by document 01's numbers
+pub mod entries; // which entries of a level document 01 admits, and how entries compare
+mod refusals; // what document 01's table refuses of a level
 mod vector; // whole-number vectors of three
 mod ramp; // the linear level's exact answers
 mod compiled; // the compiled grade and its exact answers

@@ -1,23 +1,13 @@
-// Refusals by document 01's numbers: 0 is none, and the first that fails wins.
+// What document 01's table refuses of a level, and of `grade_range`.
 ghost use mathlib.Core.Path.{_≡_};
-ghost use Rattle.grade.specs.Refusals.{refused, _orElse_, isDistance, coincident, rangeRefusal};
+ghost use Rattle.grade.specs.Refusals.{isDistance, coincident, rangeRefusal};
 use crate::Grade;
-use crate::limits::above;
-use crate::limits::equal;
-use crate::limits::same;
-use crate::limits::ticks;
-
-pub fn refused(fails: bool, number: u32) -> u32
-    ensures { λ r. ⌜ r ≡ refused fails number ⌝ }
-{
-    if fails { number } else { 0 }
-}
-
-pub fn or_else(first: u32, next: u32) -> u32
-    ensures { λ r. ⌜ r ≡ (first orElse next) ⌝ }
-{
-    if first == 0 { next } else { first }
-}
+use crate::entries::equal;
+use crate::entries::same;
+use limits::refusals::or_else;
+use limits::refusals::refused;
+use limits::ticks::above;
+use limits::ticks::ticks;
 
 impl Grade {
     pub fn is_distance(self) -> bool

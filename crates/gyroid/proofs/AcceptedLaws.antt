@@ -14,14 +14,16 @@ use Rattle.grade.specs.Grade as grade
 use Rattle.grade.specs.declared.GradeDef.{GradeDef}
 use Rattle.grade.specs.declared.LevelKind.{LevelKind}
 use Rattle.grade.specs.declared.Slope.{Slope}
-use Rattle.grade.specs.Grade.{tick, eqZ}
+use Rattle.limits.specs.Ticks.{tick}
+use Rattle.grade.specs.Grade.{eqZ}
 use Rattle.grade.specs.Exact.{compiled}
 use Rattle.grade.specs.Certified.{certification, slopeBound}
-use Rattle.grade.specs.Refusals.{refused, _orElse_, isDistance, coincident}
+use Rattle.limits.specs.Refusals.{refused, _orElse_}
+use Rattle.grade.specs.Refusals.{isDistance, coincident}
 use Rattle.grade.specs.Fits.{InLimits, DefFits, SlopeFits}
-use Rattle.grade.proofs.Entries.{both, tick-within}
+use Rattle.limits.proofs.TickLaws.{both, tick-within}
 use Rattle.grade.proofs.Accepted.{compiled-fits}
-use Rattle.grade.proofs.RefusalLaws.{none-first, kept, neither, or-else-assoc}
+use Rattle.limits.proofs.RefusalLaws.{none-first, kept, neither, or-else-assoc}
 use Rattle.grade.proofs.CertifiedLaws.{slope-fits}
 use Rattle.gyroid.specs.declared.Description.{Description}
 use Rattle.gyroid.specs.Description.{inLimits, frameInLimits, partFrame}

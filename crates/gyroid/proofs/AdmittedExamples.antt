@@ -14,7 +14,8 @@ use Rattle.interval.specs.Interval.{product, mid}
 use Rattle.interval.specs.Nearest.{fromRational}
 use Rattle.interval.specs.Floor.{quarterNumber}
 use Rattle.grade.specs.Grade as grade
-use Rattle.grade.specs.Grade.{at, ticks, minus, dot, Point, along, t, level}
+use Rattle.limits.specs.Ticks.{at, ticks}
+use Rattle.grade.specs.Grade.{minus, dot, Point, along, t, level}
 use Rattle.grade.specs.Exact.{linearOf, constantDef, compiled}
 use Rattle.grade.specs.Certified.{axis, distance, rise, linearCertification, certification}
 use Rattle.grade.specs.Holds.{InBox, AtTick}

@@ -29,13 +29,13 @@ use Rattle.grade.specs.declared.LevelKind.{LevelKind}
 use Rattle.grade.specs.declared.Piece.{Piece}
 use Rattle.grade.specs.declared.PieceAnswer.{PieceAnswer}
 use Rattle.grade.specs.declared.Piece.the-variants.{Start, Ramp, End}
-use Rattle.grade.specs.Grade.{at, ticks}
+use Rattle.limits.specs.Ticks.{at, ticks}
 use Rattle.grade.specs.Exact.{compiled}
 use Rattle.grade.specs.Fits.{Within3}
 use Rattle.grade.specs.Intervals.{boxAt, zero, zeros, interval, pieceGradient, piece}
 use Rattle.grade.proofs.Axes.{three}
 use Rattle.grade.proofs.AxisLaws.{within-at}
-use Rattle.grade.proofs.Entries.{ticks-within}
+use Rattle.grade.proofs.EntryLaws.{ticks-within}
 use Rattle.grade.proofs.SlopeLaws.{zeros-at, piece-gradient-encloses}
 use Rattle.grade.proofs.AlikeLaws.{SameBox, interval-same, affine-same, piece-same}
 use Rattle.gyroid.specs.declared.Surface.{Surface}

@@ -21,7 +21,8 @@ use Rattle.interval.proofs.Compare.{greatest-left, greatest-one}
 use Rattle.interval.proofs.Exact.{binary, nearest-exact, mid-exact, exact-small}
 use Rattle.interval.proofs.Membership.{In, high, between, equal-in, point-encloses}
 use Rattle.interval.proofs.Encloses.{sub-encloses}
-use Rattle.grade.specs.Grade.{at, Point}
+use Rattle.limits.specs.Ticks.{at}
+use Rattle.grade.specs.Grade.{Point}
 use Rattle.grade.specs.Fits.{Within3}
 use Rattle.grade.specs.Holds.{InBox}
 use Rattle.grade.specs.Extended.{inUnits}

@@ -13,10 +13,10 @@ use Rattle.exact.proofs.Fraction.{≤F-refl, ≤F-trans, ≈F-ge, num-nonneg, w
 use Rattle.exact.proofs.FractionSize.{abs-of-nonneg}
 use Rattle.interval.specs.Interval.{Arithmetic, twoPi}
 use Rattle.interval.specs.Encloses.{value, _∈_}
-use Rattle.grade.specs.Grade.{at, Point, ticks}
-use Rattle.grade.specs.Refusals.{above}
+use Rattle.limits.specs.Ticks.{at, ticks, above}
+use Rattle.grade.specs.Grade.{Point}
 use Rattle.grade.specs.Holds.{InBox}
-use Rattle.grade.proofs.Entries.{not-either}
+use Rattle.grade.proofs.EntryLaws.{not-either}
 use Rattle.grade.proofs.Axes.{three}
 use Rattle.gyroid.specs.declared.Description.{Description}
 use Rattle.gyroid.specs.declared.State.{State}

@@ -14,12 +14,13 @@ use Rattle.exact.proofs.Fraction.{≈F-refl, ≈F-trans, add-congF, sub-congF, 
 use Rattle.interval.specs.Step.{b64}
 use Rattle.interval.specs.Interval.{Arithmetic}
 use Rattle.interval.proofs.Membership.{In, wider, above-zero, below-zero}
-use Rattle.grade.specs.Grade.{Point, ticks, level}
+use Rattle.limits.specs.Ticks.{ticks}
+use Rattle.grade.specs.Grade.{Point, level}
 use Rattle.grade.specs.Intervals.{boxAt}
 use Rattle.grade.specs.Fits.{Within3}
 use Rattle.grade.specs.Holds.{InBox}
 use Rattle.grade.specs.Extended.{inUnits}
-use Rattle.grade.proofs.Entries.{ticks-within}
+use Rattle.grade.proofs.EntryLaws.{ticks-within}
 use Rattle.grade.proofs.Axes.{three}
 use Rattle.gyroid.specs.declared.Description.{Description}
 use Rattle.gyroid.specs.declared.Residual.{Residual}

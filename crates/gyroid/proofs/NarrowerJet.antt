@@ -28,7 +28,7 @@ use Rattle.interval.proofs.NarrowerProducts.{product-nested, square-nested}
 use Rattle.grade.specs.Intervals.{boxAt}
 use Rattle.grade.specs.Fits.{Within3}
 use Rattle.grade.proofs.Axes.{three}
-use Rattle.grade.proofs.Entries.{not-either}
+use Rattle.grade.proofs.EntryLaws.{not-either}
 use Rattle.gyroid.specs.declared.Description.{Description}
 use Rattle.gyroid.specs.declared.Surface.{Surface}
 use Rattle.gyroid.specs.declared.Turn.{Turn}

@@ -27,14 +27,15 @@ use Rattle.grade.specs.declared.LevelKind.{LevelKind}
 use Rattle.grade.specs.declared.GradeDef.{GradeDef}
 use Rattle.grade.specs.declared.Piece.{Piece}
 use Rattle.grade.specs.declared.PieceAnswer.{PieceAnswer}
-use Rattle.grade.specs.Grade.{Point, ticks}
+use Rattle.limits.specs.Ticks.{ticks}
+use Rattle.grade.specs.Grade.{Point}
 use Rattle.grade.specs.Exact.{compiled}
 use Rattle.grade.specs.Intervals.{unit, gradeIntervals, boxAt, zero, zeros, pieceGradient, piece}
 use Rattle.grade.specs.Fits.{Within3}
 use Rattle.grade.specs.Holds.{InBox}
 use Rattle.grade.specs.Extended.{WholeTicks}
 use Rattle.grade.proofs.Axes.{three}
-use Rattle.grade.proofs.Entries.{ticks-within}
+use Rattle.grade.proofs.EntryLaws.{ticks-within}
 use Rattle.grade.proofs.IntervalLaws.{unit-encloses, kind-is}
 use Rattle.grade.proofs.SlopeLaws.{zeros-at, piece-gradient-encloses}
 use Rattle.grade.proofs.NarrowerLaws.{interval-nested, affine-nested, piece-gradient-same}

@@ -7,10 +7,11 @@ use lib.IntN.{ℤ, pos}
 use lib.Signed.{leZ}
 use Rattle.grade.specs.declared.Grade.{Grade}
 use Rattle.grade.specs.Grade as grade
-use Rattle.grade.specs.Grade.{tick}
+use Rattle.limits.specs.Ticks.{tick}
 use Rattle.grade.specs.Exact.{compiled}
 use Rattle.grade.specs.Certified.{certification}
-use Rattle.grade.specs.Refusals.{refused, _orElse_, isDistance, coincident}
+use Rattle.limits.specs.Refusals.{refused, _orElse_}
+use Rattle.grade.specs.Refusals.{isDistance, coincident}
 use Rattle.gyroid.specs.Description.{inLimits, frameInLimits, partFrame, origin}
 use Rattle.gyroid.specs.Refusals.{refusal}
 

@@ -11,7 +11,7 @@ use Rattle.grade.specs.declared.Piece.{Piece}
 use Rattle.grade.specs.declared.PieceAnswer.{PieceAnswer}
 use Rattle.grade.specs.declared.LinearIntervals.{LinearIntervals}
 use Rattle.grade.specs.Intervals.{boxAt, zero, zeros, alongAxis, parameterOf, parameter, pieceOf, piece}
-use Rattle.grade.proofs.Entries.{both}
+use Rattle.limits.proofs.TickLaws.{both}
 use Rattle.grade.proofs.LinearLaws.{parameter-shares, piece-linear, interval-linear, affine-linear}
 use Rattle.gyroid.specs.declared.Gyroid.{Gyroid}
 use Rattle.gyroid.specs.declared.Turn.{Turn}

@@ -29,7 +29,7 @@ use Rattle.interval.proofs.SeriesLaws.{sine-encloses, cosine-encloses, tail-abo
 use Rattle.interval.proofs.Membership.{In, low, high, equal-in, wider, point-encloses}
 use Rattle.interval.proofs.Encloses.{add-encloses, sub-encloses, mul-encloses, neg-encloses, square-encloses}
 use Rattle.interval.proofs.Bounds.{symmetric-encloses}
-use Rattle.grade.proofs.Entries.{not-either}
+use Rattle.grade.proofs.EntryLaws.{not-either}
 use Rattle.gyroid.specs.declared.Description.{Description}
 use Rattle.gyroid.specs.declared.Turn.{Turn}
 use Rattle.gyroid.specs.Leaf.{leaf}

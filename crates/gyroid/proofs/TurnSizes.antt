@@ -8,7 +8,7 @@ use Rattle.interval.specs.Encloses.{Small}
 use Rattle.interval.proofs.Small.{small-between, small-more}
 use Rattle.interval.proofs.Compare.{lt-le}
 use Rattle.interval.proofs.DoubleSizes.{mid-small}
-use Rattle.grade.proofs.Entries.{both}
+use Rattle.limits.proofs.TickLaws.{both}
 use Rattle.gyroid.specs.Turn.{largestTurn, reducible}
 
 -- ---- a reducible turn

@@ -40,7 +40,8 @@ use Rattle.interval.specs.Nearest.{nearest}
 use Rattle.interval.specs.Floor.{modFour}
 use Rattle.interval.specs.Series.{sineTerm, cosineTerm, tail}
 use Rattle.interval.specs.Encloses.{_∈_}
-use Rattle.grade.specs.Grade.{at, Point, level}
+use Rattle.limits.specs.Ticks.{at}
+use Rattle.grade.specs.Grade.{Point, level}
 use Rattle.gyroid.specs.declared.Description.{Description}
 use Rattle.gyroid.specs.declared.Surface.{Surface}
 use Rattle.gyroid.specs.Leaf.{surfaceOf, turns}

@@ -4,7 +4,8 @@ use mathlib.Core.List.{List, [], _∷_}
 use lib.IntN.{ℤ, pos}
 use lib.Signed.{ltZ, leZ}
 use Rattle.grade.specs.Grade as grade
-use Rattle.grade.specs.Grade.{tick, ticks, eqZ}
+use Rattle.limits.specs.Ticks.{tick, ticks}
+use Rattle.grade.specs.Grade.{eqZ}
 use Rattle.grade.specs.Refusals.{same}
 use Rattle.gyroid.specs.declared.Frame.{Frame}
 use Rattle.gyroid.specs.declared.Description.{Description}

@@ -12,7 +12,8 @@ use Rattle.grade.specs.Grade.{eqZ}
 use Rattle.grade.specs.Exact.{compiled}
 use Rattle.grade.specs.Certified.{certification}
 use Rattle.grade.specs.Intervals.{boxAt}
-use Rattle.grade.specs.Refusals.{refused, _orElse_, isDistance, coincident}
+use Rattle.limits.specs.Refusals.{refused, _orElse_}
+use Rattle.grade.specs.Refusals.{isDistance, coincident}
 use Rattle.gyroid.specs.declared.Description.{Description}
 use Rattle.gyroid.specs.Description.{inLimits, partFrame}
 

@@ -6,12 +6,12 @@ ghost use Rattle.gyroid.specs.Constructors.{unsupported};
 use crate::Description;
 use crate::Frame;
 use grade::GradeDef;
-use grade::limits::equal;
-use grade::limits::same;
-use grade::limits::tick;
-use grade::limits::ticks;
-use grade::refusals::or_else;
-use grade::refusals::refused;
+use grade::entries::equal;
+use grade::entries::same;
+use limits::refusals::or_else;
+use limits::refusals::refused;
+use limits::ticks::tick;
+use limits::ticks::ticks;
 
 impl Frame {
     pub fn in_limits(self) -> bool

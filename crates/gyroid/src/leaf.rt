@@ -14,7 +14,7 @@ use crate::entries::unsupported;
 use grade::GradeDef;
 use grade::LevelKind;
 use grade::Slope;
-use grade::limits::equal;
+use grade::entries::equal;
 use interval::Interval;
 use interval::nearest::nearest;
 

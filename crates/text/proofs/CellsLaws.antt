@@ -11,8 +11,8 @@ use lib.Signed.{mag}
 use mir.Syntax.{w64}
 use mir.Val.{toZ, ofZ}
 use Rattle.exact.proofs.Signed.{back}
-use Rattle.grade.specs.Grade.{at}
-use Rattle.grade.proofs.RefusalLaws.{refused-is, answer-is}
+use Rattle.limits.specs.Ticks.{at}
+use Rattle.limits.proofs.RefusalLaws.{refused-is, answer-is}
 use Rattle.table.specs.declared.Head.{Head}
 use Rattle.table.specs.Table.{Record}
 use Rattle.grade.specs.InUse.{inUse}

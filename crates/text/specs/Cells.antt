@@ -5,7 +5,7 @@ use Prim.Native.Nat.{ℕ, _+_}
 use lib.Dec.{eqb}
 use lib.IntN.{ℤ, pos}
 use lib.ListN.{length, replicate}
-use Rattle.grade.specs.Grade.{at}
+use Rattle.limits.specs.Ticks.{at}
 use Rattle.gyroid.specs.declared.Description.{Description}
 use Rattle.walk.specs.InUse.{walkNumber, walkTable}
 use Rattle.text.specs.Line.{lineOf}

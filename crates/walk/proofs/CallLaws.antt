@@ -15,10 +15,11 @@ use mir.Val.{toZ, ofZ, Fits, SFits}
 use borrow.Author.Tests.{lt-ltb, le-ltb, eq-eqb, ne-eqb}
 use Rattle.exact.specs.Within.{Within}
 use Rattle.exact.proofs.Signed.{back, heard}
-use Rattle.grade.specs.Grade.{at, ticks}
-use Rattle.grade.specs.Refusals.{refused, _orElse_}
-use Rattle.grade.proofs.Entries.{both, ticks-within}
-use Rattle.grade.proofs.RefusalLaws.{none-first, none-last, kept, neither}
+use Rattle.limits.specs.Ticks.{at, ticks}
+use Rattle.limits.specs.Refusals.{refused, _orElse_}
+use Rattle.limits.proofs.TickLaws.{both}
+use Rattle.grade.proofs.EntryLaws.{ticks-within}
+use Rattle.limits.proofs.RefusalLaws.{none-first, none-last, kept, neither}
 use Rattle.grade.specs.InUse.{inUse}
 use Rattle.gyroid.specs.declared.Compiled.{Compiled}
 use Rattle.gyroid.specs.declared.Description.{Description}

@@ -10,8 +10,7 @@ use lib.Ieee.Fits.{and-i}
 use Rattle.exact.specs.Within.{Within}
 use Rattle.exact.proofs.IntegerOrder.{zarith}
 use Rattle.exact.proofs.Size.{within-low, within-high}
-use Rattle.grade.specs.Grade.{tick, ticks}
-use Rattle.grade.specs.Refusals.{above}
+use Rattle.limits.specs.Ticks.{tick, ticks, above}
 use Rattle.gyroid.specs.declared.Gyroid.{Gyroid}
 use Rattle.gyroid.specs.InUse.{boxState}
 use Rattle.gyroid.specs.Admitted.{tickBox}

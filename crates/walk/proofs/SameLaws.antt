@@ -6,7 +6,7 @@ use Prim.Native.Nat.{ℕ, _+_, _-_, _/_}
 use lib.Dec.{eqb, ltb}
 use lib.ListN.{length, replicate}
 use Rattle.interval.specs.declared.Interval.{Interval}
-use Rattle.grade.specs.Refusals.{refused}
+use Rattle.limits.specs.Refusals.{refused}
 use Rattle.gyroid.specs.declared.Gyroid.{Gyroid}
 use Rattle.gyroid.specs.declared.State.{State}
 use Rattle.gyroid.specs.Residual.{stateNumber}

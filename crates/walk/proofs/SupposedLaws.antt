@@ -13,10 +13,10 @@ use lib.Ieee.Fits.{and-i}
 use borrow.Author.Tests.{le-ltb}
 use Rattle.interval.specs.Interval.{Arithmetic}
 use Rattle.exact.proofs.IntegerOrder.{zarith}
-use Rattle.grade.specs.Grade.{at, ticks}
-use Rattle.grade.specs.Refusals.{refused, _orElse_}
-use Rattle.grade.proofs.Entries.{both}
-use Rattle.grade.proofs.RefusalLaws.{none-first, none-last, kept, neither}
+use Rattle.limits.specs.Ticks.{at, ticks}
+use Rattle.limits.specs.Refusals.{refused, _orElse_}
+use Rattle.limits.proofs.TickLaws.{both}
+use Rattle.limits.proofs.RefusalLaws.{none-first, none-last, kept, neither}
 use Rattle.gyroid.specs.declared.Description.{Description}
 use Rattle.gyroid.specs.Refusals.{refusal}
 use Rattle.gyroid.specs.Leaf.{leaf}

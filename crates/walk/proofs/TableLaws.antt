@@ -9,7 +9,7 @@ use lib.IntN.{ℤ, natAbs}
 use lib.ListN.{length}
 use borrow.Author.Tests.{eq-eqb}
 use Rattle.interval.specs.Interval.{Arithmetic}
-use Rattle.grade.proofs.RefusalLaws.{none-last, neither}
+use Rattle.limits.proofs.RefusalLaws.{none-last, neither}
 use Rattle.gyroid.specs.declared.Description.{Description}
 use Rattle.gyroid.specs.declared.Gyroid.{Gyroid}
 use Rattle.gyroid.specs.declared.State.{State}

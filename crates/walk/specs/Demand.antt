@@ -13,7 +13,8 @@ use lib.ListN.{length}
 use lib.Signed.{_≤ℤ_, _<ℤ_}
 use Rattle.exact.specs.Fraction.{zeroF, _<F_}
 use Rattle.interval.specs.Interval.{Arithmetic}
-use Rattle.grade.specs.Grade.{Point, ticks}
+use Rattle.limits.specs.Ticks.{ticks}
+use Rattle.grade.specs.Grade.{Point}
 use Rattle.grade.specs.Holds.{InBox}
 use Rattle.gyroid.specs.declared.Description.{Description}
 use Rattle.gyroid.specs.declared.State.the-variants.{Unsettled}

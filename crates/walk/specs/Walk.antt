@@ -8,8 +8,8 @@ use lib.IntN.{ℤ, pos, natAbs}
 use lib.Signed.{leZ, ltZ}
 use lib.ListN.{length, replicate}
 use Rattle.interval.specs.Interval.{Arithmetic}
-use Rattle.grade.specs.Grade.{at, ticks}
-use Rattle.grade.specs.Refusals.{refused, _orElse_}
+use Rattle.limits.specs.Ticks.{at, ticks}
+use Rattle.limits.specs.Refusals.{refused, _orElse_}
 use Rattle.gyroid.specs.declared.Description.{Description}
 use Rattle.gyroid.specs.declared.Gyroid.{Gyroid}
 use Rattle.gyroid.specs.declared.State.{State}

@@ -7,11 +7,11 @@ ghost use Rattle.tree.specs.Box.{boxFrom};
 ghost use Rattle.walk.specs.Walk.{spans, depths, entryRefusal};
 ghost use Rattle.walk.specs.InUse.{walkNumber, walkTable, Supposed, Demand};
 use crate::run::run;
-use grade::limits::ticks;
-use grade::refusals::or_else;
-use grade::refusals::refused;
 use gyroid::Description;
 use gyroid::Gyroid;
+use limits::refusals::or_else;
+use limits::refusals::refused;
+use limits::ticks::ticks;
 use tree::ShiftedBox;
 
 // Whether every span is at least 1.

@@ -1,7 +1,7 @@
 -- By what the lengths refuse, then by the call and what is left. Assumes nothing.
 use mathlib.Core.Path.{_∙_, ap, sym}
 use borrow.Author.Needs.{needs}
-use Rattle.grade.proofs.RefusalLaws.{neither}
+use Rattle.limits.proofs.RefusalLaws.{neither}
 use Rattle.calls.specs.Calls.{derivativesCall}
 use Rattle.capi.specs.Exports.{derivatives, derivativesSaid}
 use Rattle.capi.proofs.AnswerLaws.{stopped, passed}

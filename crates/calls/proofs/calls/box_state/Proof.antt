@@ -2,8 +2,8 @@
 use mathlib.Core.Path.{sym, ap, ap₂, _∙_, subst⁻¹}
 use mathlib.Core.List.{[], _∷_}
 use borrow.Author.Needs.{needs}
-use Rattle.grade.specs.Refusals.{_orElse_}
-use Rattle.grade.proofs.RefusalLaws.{neither, refused-is, answer-is}
+use Rattle.limits.specs.Refusals.{_orElse_}
+use Rattle.limits.proofs.RefusalLaws.{neither, refused-is, answer-is}
 use Rattle.grade.specs.Said.{found, refusing}
 use Rattle.gyroid.specs.declared.State.{State}
 use Rattle.gyroid.specs.Residual.{stateNumber}

@@ -2,7 +2,7 @@
 use mathlib.Core.Path.{sym, ap, _∙_}
 use borrow.Author.Needs.{needs}
 use Rattle.grade.specs.Said.{found, refusing}
-use Rattle.grade.proofs.RefusalLaws.{refused-is, answer-is}
+use Rattle.limits.proofs.RefusalLaws.{refused-is, answer-is}
 use Rattle.gyroid.proofs.LeafLaws.{number-is, leaf-is}
 use Rattle.calls.specs.Calls.{ends, curvatureCall}
 use Rattle.calls.specs.Facet.{curvature}

@@ -1,8 +1,8 @@
 -- By the refusals; a leaf behind a refusal of 0 is the description's. Assumes nothing.
 use mathlib.Core.Path.{sym, ap, ap₂, _∙_}
 use borrow.Author.Needs.{needs}
-use Rattle.grade.specs.Refusals.{_orElse_}
-use Rattle.grade.proofs.RefusalLaws.{neither, refused-is, answer-is}
+use Rattle.limits.specs.Refusals.{_orElse_}
+use Rattle.limits.proofs.RefusalLaws.{neither, refused-is, answer-is}
 use Rattle.grade.specs.Said.{refusing}
 use Rattle.gyroid.specs.InUse.{leaf}
 use Rattle.gyroid.proofs.LeafLaws.{number-is, leaf-is}

@@ -3,7 +3,7 @@ use mathlib.Core.Path.{sym, ap, _∙_}
 use mathlib.Core.List.{[], _∷_}
 use borrow.Author.Needs.{needs}
 use Rattle.grade.specs.Said.{found, refusing}
-use Rattle.grade.proofs.RefusalLaws.{refused-is, answer-is}
+use Rattle.limits.proofs.RefusalLaws.{refused-is, answer-is}
 use Rattle.gyroid.proofs.LeafLaws.{number-is, grade-is}
 use Rattle.calls.specs.Calls.{isGraded, gradedCall}
 use Rattle.calls.proofs.calls.graded.Statement.{statement}

@@ -3,10 +3,10 @@ use mathlib.Core.Path.{sym, ap, ap₂, _∙_, subst⁻¹}
 use mathlib.Core.Bool.{not, _&&_}
 use borrow.Author.Needs.{needs}
 use Rattle.grade.specs.Exact.{compiled, exactPiece}
-use Rattle.grade.specs.Refusals.{refused, _orElse_}
+use Rattle.limits.specs.Refusals.{refused, _orElse_}
 use Rattle.grade.specs.Fits.{DefFits}
 use Rattle.grade.specs.Said.{refusing}
-use Rattle.grade.proofs.RefusalLaws.{refused-is, answer-is}
+use Rattle.limits.proofs.RefusalLaws.{refused-is, answer-is}
 use Rattle.gyroid.proofs.LeafLaws.{number-is, grade-is}
 use Rattle.gyroid.proofs.AcceptedLaws.{accepted}
 use Rattle.calls.specs.Calls.{levelPieceSaid, pieceAnswer, levelPieceRefusal, levelPieceCall, PieceSays}

@@ -4,7 +4,7 @@ use borrow.Author.Needs.{needs}
 use Rattle.grade.specs.Certified.{planes}
 use Rattle.grade.specs.Fits.{DefFits}
 use Rattle.grade.specs.Said.{found, refusing}
-use Rattle.grade.proofs.RefusalLaws.{refused-is, answer-is}
+use Rattle.limits.proofs.RefusalLaws.{refused-is, answer-is}
 use Rattle.gyroid.proofs.LeafLaws.{number-is, grade-is}
 use Rattle.gyroid.proofs.AcceptedLaws.{accepted}
 use Rattle.calls.specs.Calls.{planesValues, planesCall}

@@ -3,7 +3,7 @@ use mathlib.Core.Path.{sym, _∙_}
 use borrow.Author.Needs.{needs}
 use Rattle.exact.proofs.Signed.{back}
 use Rattle.grade.specs.Said.{found, refusing}
-use Rattle.grade.proofs.RefusalLaws.{refused-is, answer-is}
+use Rattle.limits.proofs.RefusalLaws.{refused-is, answer-is}
 use Rattle.gyroid.proofs.LeafLaws.{number-is, surface-is, grade-is}
 use Rattle.calls.specs.Calls.{saturatedBy, saturatedCall}
 use Rattle.calls.proofs.calls.saturated.Statement.{statement}

@@ -2,7 +2,8 @@
 use mathlib.Core.Bool.{not, _&&_}
 use mathlib.Core.Path.{_∙_, ap₂}
 use borrow.Author.Needs.{needs}
-use Rattle.grade.specs.Refusals.{refused, _orElse_, rangeRefusal}
+use Rattle.limits.specs.Refusals.{refused, _orElse_}
+use Rattle.grade.specs.Refusals.{rangeRefusal}
 use Rattle.grade.proofs.Grade.range_refusal.Statement.{statement}
 use Rattle.grade.proofs.Grade.range_refusal.Tie as tie
 

@@ -9,7 +9,7 @@ use Rattle.grade.specs.Exact.{linearOf, constantDef, compiled}
 use Rattle.grade.specs.Grade.{eqZ, isLinear}
 use Rattle.grade.specs.declared.LevelKind.{LevelKind}
 use Rattle.grade.specs.declared.Grade.{Grade}
-use Rattle.grade.proofs.Entries.{sizes}
+use Rattle.grade.proofs.EntryLaws.{sizes}
 use Rattle.grade.proofs.GradeDef.compile.Statement.{statement}
 use Rattle.grade.proofs.GradeDef.compile.Tie as tie
 

@@ -3,7 +3,7 @@ use mathlib.Core.Path.{_∙_}
 use borrow.Author.Needs.{needs}
 use Rattle.exact.proofs.Signed.{heard₃}
 use Rattle.grade.specs.Certified.{only, axisOf, axis}
-use Rattle.grade.specs.Grade.{at}
+use Rattle.limits.specs.Ticks.{at}
 use Rattle.grade.proofs.Linear.axis.Statement.{statement}
 use Rattle.grade.proofs.Linear.axis.Tie as tie
 

@@ -7,7 +7,7 @@ use lib.IntN.{pos}
 use Rattle.exact.proofs.Size.{within-self, within-fits}
 use Rattle.exact.proofs.Signed.{is, got, fits, bit, mul, heard}
 use Rattle.grade.specs.Certified.{isOne, ending, linearCertification}
-use Rattle.grade.specs.Refusals.{refused, _orElse_}
+use Rattle.limits.specs.Refusals.{refused, _orElse_}
 use Rattle.grade.proofs.Sizes.{distance-within, rise-within}
 use Rattle.grade.proofs.Linear.check_certified.Statement.{statement}
 use Rattle.grade.proofs.Linear.check_certified.Tie as tie

@@ -7,7 +7,7 @@ use Rattle.grade.specs.Said.{found, refusing}
 use Rattle.grade.specs.Calls.{three, rangeCall}
 use Rattle.grade.specs.Fits.{DefFits}
 use Rattle.grade.proofs.RangeLaws.{range-holds}
-use Rattle.grade.proofs.RefusalLaws.{refused-is, answer-is}
+use Rattle.limits.proofs.RefusalLaws.{refused-is, answer-is}
 use Rattle.grade.proofs.Accepted.{accepted, compiled-fits}
 use Rattle.grade.proofs.range.grade_range.Statement.{statement}
 use Rattle.grade.proofs.range.grade_range.Tie as tie

@@ -8,7 +8,7 @@ use mir.Val.{toZ, ofZ, SFits}
 use mir.Syntax.{w64}
 use Rattle.exact.proofs.Choice.{choose}
 use Rattle.exact.proofs.Signed.{back}
-use Rattle.grade.specs.Grade.{at}
+use Rattle.limits.specs.Ticks.{at}
 use Rattle.grade.specs.Exact.{leastEnd, leastCorner}
 use Rattle.grade.proofs.vector.least_corner.Statement.{statement}
 use Rattle.grade.proofs.vector.least_corner.Tie as tie

@@ -4,7 +4,7 @@ use borrow.Author.Needs.{needs}
 use lib.IntN.{pos}
 use lib.Signed.{leZ}
 use Rattle.exact.proofs.Signed.{back, heard}
-use Rattle.grade.specs.Grade.{tick}
+use Rattle.limits.specs.Ticks.{tick}
 use Rattle.gyroid.specs.Description.{inLimits}
 use Rattle.gyroid.proofs.Description.in_limits.Statement.{statement}
 use Rattle.gyroid.proofs.Description.in_limits.Tie as tie

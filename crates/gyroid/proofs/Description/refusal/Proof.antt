@@ -8,9 +8,9 @@ use lib.Signed.{leZ}
 use Rattle.exact.proofs.Signed.{back, heard}
 use Rattle.grade.specs.Grade.{eqZ}
 use Rattle.grade.specs.Certified.{certification}
-use Rattle.grade.specs.Refusals.{refused, _orElse_}
+use Rattle.limits.specs.Refusals.{refused, _orElse_}
 use Rattle.grade.specs.Fits.{DefFits}
-use Rattle.grade.proofs.RefusalLaws.{first-wins}
+use Rattle.limits.proofs.RefusalLaws.{first-wins}
 use Rattle.gyroid.specs.declared.Description.{Description}
 use Rattle.gyroid.specs.Refusals.{refusal}
 use Rattle.gyroid.proofs.AcceptedLaws.{early, late, split, passed}

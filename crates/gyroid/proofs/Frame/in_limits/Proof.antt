@@ -1,7 +1,7 @@
 -- Each entry is read back from its bits. Assumes nothing.
 use mathlib.Core.Bool.{_&&_}
 use Rattle.exact.proofs.Signed.{heard}
-use Rattle.grade.specs.Grade.{tick}
+use Rattle.limits.specs.Ticks.{tick}
 use Rattle.gyroid.specs.Description.{frameInLimits}
 use Rattle.gyroid.proofs.Frame.in_limits.Statement.{statement}
 use Rattle.gyroid.proofs.Frame.in_limits.Tie as tie

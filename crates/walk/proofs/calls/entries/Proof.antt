@@ -1,7 +1,7 @@
 -- The tests one by one, in the order of the refusals. Assumes nothing.
 use mathlib.Core.Path.{ap, ap₂, _∙_}
 use mathlib.Core.Bool.{not, _&&_}
-use Rattle.grade.specs.Refusals.{refused, _orElse_}
+use Rattle.limits.specs.Refusals.{refused, _orElse_}
 use Rattle.exact.proofs.Signed.{heard}
 use Rattle.walk.specs.Walk.{depths, entryRefusal}
 use Rattle.walk.proofs.calls.entries.Statement.{statement}

@@ -1,7 +1,7 @@
 -- By the test. Assumes nothing.
 use borrow.Author.Tests.{ne-eqb}
-use Rattle.grade.proofs.refusals.or_else.Statement.{statement}
-use Rattle.grade.proofs.refusals.or_else.Tie as tie
+use Rattle.limits.proofs.refusals.or_else.Statement.{statement}
+use Rattle.limits.proofs.refusals.or_else.Tie as tie
 
 returns : tie.Need-returns
 returns c = simp (c .if1 .taken)

@@ -2,9 +2,10 @@
 use mathlib.Core.Bool.{_&&_}
 use borrow.Author.Needs.{needs}
 use Rattle.exact.proofs.Signed.{heard₂}
-use Rattle.grade.specs.Grade.{at, eqZ}
-use Rattle.grade.proofs.limits.same.Statement.{statement}
-use Rattle.grade.proofs.limits.same.Tie as tie
+use Rattle.limits.specs.Ticks.{at}
+use Rattle.grade.specs.Grade.{eqZ}
+use Rattle.grade.proofs.entries.same.Statement.{statement}
+use Rattle.grade.proofs.entries.same.Tie as tie
 
 array-copy-out-equal : tie.Need-array-copy-out-equal
 array-copy-out-equal c = search needs

@@ -7,21 +7,14 @@ use lib.Signed.{leZ, leZ-yes}
 use Rattle.exact.specs.Within.{Within}
 use Rattle.exact.proofs.Size.{within-of-bounds}
 use Rattle.grade.specs.declared.Grade.{Grade}
-use Rattle.grade.specs.Grade.{at, tick, count, ticks, inLimits}
+use Rattle.limits.specs.Ticks.{tick, at, ticks}
+use Rattle.limits.proofs.TickLaws.{both, tick-within}
+use Rattle.grade.specs.Grade.{count, inLimits}
 use Rattle.grade.specs.Fits.{Within3, InLimits}
-
-pub both : (a b : Bool) → T (a && b) → T a × T b
-both true b t = (tt, t)
-both false b t = absurd t
 
 pub not-either : (a b : Bool) → T (not (a || b)) → T (not a) × T (not b)
 not-either true b t = absurd t
 not-either false b t = (tt, t)
-
-pub tick-within : (z : ℤ) → T (tick z) → Within 1048576 z
-tick-within z t =
-    let (h, k) = both (leZ (negsuc 1048575) z) (leZ z (pos 1048576)) t in
-    within-of-bounds 1048576 (leZ-yes h) (leZ-yes k)
 
 count-within : (z : ℤ) → T (count z) → Within 4096 z
 count-within z t =

@@ -2,10 +2,9 @@
 use mathlib.Core.Bool.{_&&_}
 use borrow.Author.Needs.{needs}
 use Rattle.exact.proofs.Signed.{heard}
-use Rattle.grade.specs.Grade.{at}
-use Rattle.grade.specs.Grade.{tick}
-use Rattle.grade.proofs.limits.ticks.Statement.{statement}
-use Rattle.grade.proofs.limits.ticks.Tie as tie
+use Rattle.limits.specs.Ticks.{tick, at}
+use Rattle.limits.proofs.ticks.ticks.Statement.{statement}
+use Rattle.limits.proofs.ticks.ticks.Tie as tie
 
 array-copy-out-tick : tie.Need-array-copy-out-tick
 array-copy-out-tick c = search needs

@@ -5,7 +5,7 @@ use Prim.Native.Nat.{ℕ, suc}
 use native.Mathlib.Omega.{arith}
 use borrow.Author.Tests.{eq-eqb, ne-eqb}
 use lib.Dec.{T, eqb, eqb→eq, eqb·suc-zero}
-use Rattle.grade.specs.Refusals.{refused, _orElse_}
+use Rattle.limits.specs.Refusals.{refused, _orElse_}
 
 -- ---- one test
 suc-not : {n : ℕ} → suc n ≡ 0 → ⊥

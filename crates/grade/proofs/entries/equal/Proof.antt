@@ -1,7 +1,7 @@
 -- Equal bits are equal numbers. Assumes nothing.
 use Rattle.exact.proofs.Signed.{equal-bits}
-use Rattle.grade.proofs.limits.equal.Statement.{statement}
-use Rattle.grade.proofs.limits.equal.Tie as tie
+use Rattle.grade.proofs.entries.equal.Statement.{statement}
+use Rattle.grade.proofs.entries.equal.Tie as tie
 
 returns : tie.Need-returns
 returns c = equal-bits (c .fits .a) (c .fits .b)
