@@ -57,7 +57,7 @@ module _ (next : ℕ) (m : Record) (r : List ℕ) where
 byte-later : (t : List ℕ) (n k : ℕ) {i : ℕ} → i ≡ n + k → u8At t i ≡ u8At (drop n t) k
 byte-later t n k e = ap (u8At t) e ∙ sym (getD-drop n t k 0)
 
-word-later : (t : List ℕ) (n k : ℕ) {i : ℕ} → i ≡ n + k → u32At t i ≡ u32At (drop n t) k
+pub word-later : (t : List ℕ) (n k : ℕ) {i : ℕ} → i ≡ n + k → u32At t i ≡ u32At (drop n t) k
 word-later t n k {i} e =
     let byte0 = byte-later t n k e in
     let byte1 = byte-later t n (k + 1) (ap (λ (j : ℕ). j + 1) e ∙ add-assoc n k 1) in

@@ -10,6 +10,8 @@ pub mod ReadLaws
 -- the way back from the bytes
 mod Fronts
 pub mod ReadBack
+-- numbers as bytes
+pub mod WordLists
 -- what the stores of the code's writers leave
 mod Stored
 -- worked by computation

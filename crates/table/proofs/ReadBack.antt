@@ -45,6 +45,21 @@ zeros-in t rest total slot (m ∷ ms) i l h e =
     let b = behind t rest total slot m ms e in
     ⊎-elim (λ k. subst (TwoZeros t) k (zeros-at t _ slot _ m (b .0))) (λ k. zeros-in t rest total (suc slot) ms i k (omega arith) (b .1)) (eq-or-lt-of-le l)
 
+-- the slots that they name
+names-next : (t later : List ℕ) (total slot : ℕ) (m : Record) → slot < total → total < 4294967296
+    → drop (32 * slot) t ≡ cellBytes (nextSlot total slot) m ++ later → nextIn t slot ≡ suc slot
+names-next t later total slot m h few e =
+    let next : nextSlot total slot ≡ suc slot = rw (ne-eqb slot total (λ q. omega arith)) (add-one slot) in
+    next-at t later slot (nextSlot total slot) m e (omega arith) ∙ next
+
+goes-in : (t rest : List ℕ) (total slot : ℕ) (ms : List Record) (i : ℕ) → slot ≤ i → i < slot + length ms → i < total → total < 4294967296
+    → drop (32 * slot) t ≡ cellsBytes total slot ms ++ rest → nextIn t i ≡ suc i
+goes-in t rest total slot [] i l h below few e = absurd (omega arith)
+goes-in t rest total slot (m ∷ ms) i l h below few e =
+    let b = behind t rest total slot m ms e in
+    ⊎-elim (λ k. subst (λ (j : ℕ). nextIn t j ≡ suc j) k (names-next t _ total slot m (omega arith) few (b .0)))
+    (λ k. goes-in t rest total (suc slot) ms i k (omega arith) below few (b .1)) (eq-or-lt-of-le l)
+
 chained : (t rest : List ℕ) (total slot : ℕ) (ms : List Record) → AllFit ms → slot + length ms ≡ total + 1 → total < 4294967296
     → drop (32 * slot) t ≡ cellsBytes total slot ms ++ rest → Chained t slot ms
 unfolding chain chainEnd cellsBytes
@@ -58,9 +73,8 @@ chained t rest total slot (m ∷ []) g n h e =
       ends = λ p. next-at t rest slot (nextSlot total slot) m front (omega arith) ∙ next;
     }
 chained t rest total slot (m ∷ k ∷ ms) g n h e =
-    let next : nextSlot total slot ≡ suc slot = rw (ne-eqb slot total (λ q. omega arith)) (add-one slot) in
     let b = behind t rest total slot m (k ∷ ms) e in
-    let goes : nextIn t slot ≡ suc slot = next-at t _ slot (nextSlot total slot) m (b .0) (omega arith) ∙ next in
+    let goes = names-next t _ total slot m (omega arith) h (b .0) in
     let others = chained t rest total (suc slot) (k ∷ ms) (g .1) (omega arith) h (b .1) in
     record {
       records-are = (λ i. record-at t _ slot (nextSlot total slot) m (b .0) (g .0) i ∷ chain (length (k ∷ ms)) t (goes i))
@@ -84,6 +98,7 @@ told len h ms f g e n =
     record {
       head-is = read;
       records-are = (λ i. chain (many i) t (first i)) ∙ all .records-are;
+      goes-on = λ slot l h. goes-in t zeros (length ms) 1 ms slot l (omega arith) (omega arith) (omega (arith, n, f .cells)) on;
       ends = λ p. (λ i. chainEnd (many i) t (first i)) ∙ all .ends p;
       zeros = λ slot l h. zeros-in t zeros (length ms) 1 ms slot l (omega arith) on;
     }

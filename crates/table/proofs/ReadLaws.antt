@@ -9,7 +9,7 @@ use lib.Dec.{ltb}
 use lib.IntN.{pos, negsuc}
 use lib.ListN.{length, List·getD-eq-default}
 use Rattle.exact.specs.Within.{Within}
-use Rattle.table.specs.Read.{u8At, u32At, twosComplement, nextIn, coordinateIn, recordIn, chain}
+use Rattle.table.specs.Read.{u8At, u32At, twosComplement, nextIn, coordinateIn, recordIn, chain, chainEnd}
 
 -- ---- the chain
 pub chain-end : (n : ℕ) (t : List ℕ) (slot : ℕ) → n ≤ 0 → chain n t slot ≡ []
@@ -21,6 +21,19 @@ pub chain-step : (n : ℕ) (t : List ℕ) (slot : ℕ) → 0 < n → chain n t s
 unfolding chain
 chain-step zero t slot h = absurd (omega arith)
 chain-step (suc n) t slot h = let e : suc n - 1 ≡ n = omega arith in rw e
+
+-- one cell more, and where the chain ends
+pub chain-more : (n : ℕ) (t : List ℕ) (slot : ℕ) → chain (suc n) t slot ≡ recordIn t slot ∷ chain n t (nextIn t slot)
+unfolding chain
+chain-more n t slot = refl
+
+pub end-none : (t : List ℕ) (slot : ℕ) → chainEnd 0 t slot ≡ slot
+unfolding chainEnd
+end-none t slot = refl
+
+pub end-more : (n : ℕ) (t : List ℕ) (slot : ℕ) → chainEnd (suc n) t slot ≡ chainEnd n t (nextIn t slot)
+unfolding chainEnd
+end-more n t slot = refl
 
 pub length-chain : (n : ℕ) (t : List ℕ) (slot : ℕ) → length (chain n t slot) ≡ n
 unfolding chain

@@ -6,6 +6,7 @@ ghost use Rattle.table.specs.Read.{u32At, u64At, i32At, headIn, nextIn, 
 use crate::Head;
 use crate::offsets::CELLS;
 use crate::offsets::COORDINATES;
+use crate::offsets::DEPTH;
 use crate::offsets::EVALUATED;
 use crate::offsets::OPEN;
 use crate::offsets::SOLID;
@@ -27,7 +28,7 @@ fn u32_at(t: &[u8], at: usize) -> usize
     wide(t[at]) + wide(t[at + 1]) * 256 + wide(t[at + 2]) * 65536 + wide(t[at + 3]) * 16777216
 }
 
-fn u64_at(t: &[u8], at: usize) -> usize
+pub fn u64_at(t: &[u8], at: usize) -> usize
     requires { ⌜ at + 8 ≤ length (now t) ⌝ }
     ensures { λ r. ⌜ r ≡ u64At (now (t .entry)) at ⌝ }
 {
@@ -72,6 +73,13 @@ pub fn state_of(t: &[u8], slot: usize) -> usize
     ensures { λ r. ⌜ r ≡ recordIn (now (t .entry)) slot .state ⌝ }
 {
     wide(t[32 * slot + STATE])
+}
+
+pub fn depth_of(t: &[u8], slot: usize) -> usize
+    requires { ⌜ 32 * (slot + 1) ≤ length (now t) ⌝ }
+    ensures { λ r. ⌜ r ≡ recordIn (now (t .entry)) slot .depth ⌝ }
+{
+    wide(t[32 * slot + DEPTH])
 }
 
 // One of its three lows and three highs, counted from 0.

@@ -10,6 +10,8 @@ pub const OPEN: usize = 20;
 pub const HEAD_ZEROS: usize = 28; // four zeros
 
 // A cell's record; the next slot is at the start.
-pub const STATE: usize = 4; // then the depth, then two zeros
+pub const STATE: usize = 4;
+
+pub const DEPTH: usize = 5; // then two zeros
 
 pub const COORDINATES: usize = 8; // three lows, three highs

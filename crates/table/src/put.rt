@@ -43,7 +43,7 @@ fn put_u32(t: &mut [u8], at: usize, x: usize)
 }
 
 // A u64: its low word, then its high word.
-fn put_u64(t: &mut [u8], at: usize, x: usize)
+pub fn put_u64(t: &mut [u8], at: usize, x: usize)
     requires { ⌜ at + 8 ≤ length (now t) ⌝ }
     ensures { λ _. ⌜ now (t .exit) ≡ sets (now (t .entry)) at (word8 x) ⌝ }
 {

@@ -25,7 +25,7 @@ test-false : (a b : ℤ) → leZ a b ≡ false → b <ℤ a
 test-false a b e = ⊎-elim (λ h. absurd (subst T e (h .le))) (λ h. h) (le-or-lt a b)
 
 -- 1 where a test holds, and 0 where it does not
-abbrev one : Bool → ℕ
+abbrev pub one : Bool → ℕ
 one t = cond t 1 0
 
 -- ---- on one axis: between two ends is on one side of the middle, and not on both
@@ -52,16 +52,16 @@ split-right true s t u e = e
 split-right false s t u e = refl
 
 -- along an axis: between the ends, and on either side of the middle
-abbrev along : ℤ → Axis → Box → Bool
+abbrev pub along : ℤ → Axis → Box → Bool
 along c a b = liesBetween c (low a b) (high a b)
 
-abbrev below : ℤ → Axis → Box → Bool
+abbrev pub below : ℤ → Axis → Box → Bool
 below c a b = liesBetween c (low a b) (middle a b)
 
-abbrev above : ℤ → Axis → Box → Bool
+abbrev pub above : ℤ → Axis → Box → Bool
 above c a b = liesBetween c (middle a b) (high a b)
 
-along-halves : (c : ℤ) (a : Axis) (b : Box) → Good b → one (along c a b) ≡ one (below c a b) + one (above c a b)
+pub along-halves : (c : ℤ) (a : Axis) (b : Box) → Good b → one (along c a b) ≡ one (below c a b) + one (above c a b)
 along-halves c a b g =
     lies-between-halves c (low a b) (middle a b) (high a b) (middle-least (low a b) (high a b) (g .spans a))
     (<ℤ-le (middle-below (low a b) (high a b) (g .spans a)))

@@ -14,7 +14,9 @@ pub mod StepLaws
 pub mod CountLaws
 pub mod TreeInduction
 pub mod SolidLaws
--- the tick cubes of its cells, why each is a cell, and what more depth makes of them
+pub mod SumLaws
+-- the tick cubes of its cells and their tick squares in a layer, why each is a cell, and what more depth makes of them
 pub mod CoverLaws
+pub mod AreaLaws
 pub mod StoppedLaws
 pub mod DepthLaws

@@ -85,6 +85,10 @@ oneCube b = eqb (span X b) 1 && eqb (span Y b) 1 && eqb (span Z b) 1
 unfoldable pub volume : Box → ℕ
 volume b = span X b * span Y b * span Z b
 
+-- the number of tick squares in a layer that it crosses
+abbrev pub area : Box → ℕ
+area b = span X b * span Y b
+
 -- ---- "A tick cube has whole ticks as corners and edges of one tick; it is in a cell when it lies between the cell's lows and highs on each
 -- axis." The cube with the low corner x, y, z
 abbrev pub liesBetween : ℤ → ℤ → ℤ → Bool
@@ -97,6 +101,10 @@ holdsCube x y z b = liesBetween x (b .lx) (b .hx) && liesBetween y (b .ly) (b .h
 unfoldable pub holders : ℤ → ℤ → ℤ → List Box → ℕ
 holders x y z [] = 0
 holders x y z (b ∷ bs) = cond (holdsCube x y z b) 1 0 + holders x y z bs
+
+-- ---- a box's tick squares in the layer that lies between z and z + 1
+unfoldable pub areaAt : ℤ → Box → ℕ
+areaAt z b = cond (liesBetween z (b .lz) (b .hz)) (area b) 0
 
 -- ---- the code keeps a coordinate x as the whole number x + 2^20, from 0 to 2^21
 abbrev pub unshifted : ℕ → ℤ
