@@ -1,3 +1,4 @@
--- The laws of refusals and of coordinates. Assumes nothing.
+-- The laws of tests, of refusals and of coordinates. Assumes nothing.
+pub mod TestLaws
 pub mod RefusalLaws
 pub mod TickLaws

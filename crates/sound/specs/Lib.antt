@@ -1,0 +1,3 @@
+-- What a sound table is. Assumes nothing.
+pub mod Slots
+pub mod Sound
