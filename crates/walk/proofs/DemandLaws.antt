@@ -4,14 +4,17 @@ use mathlib.Core.Path.{_≡_, refl, sym, ap, _∙_, subst, subst⁻¹}
 use mathlib.Core.Bool.{Bool, true, cond, _||_}
 use mathlib.Core.Logic.{_⊎_, inl, inr, ⊎-elim}
 use mathlib.Core.List.{List, [], _∷_}
-use Prim.Native.Nat.{ℕ, _≤_, _<_}
+use Prim.Native.Nat.{ℕ, _+_, _*_, _/_, _≤_, _<_}
 use native.Mathlib.Omega.{arith}
 use native.Mathlib.Nat.{two-pow-succ, zero-add}
+use lib.Dec.{ltb, nltb→le}
 use lib.IntN.{ℤ}
 use lib.ListN.{length}
 use borrow.Author.Tests.{eq-eqb}
 use Rattle.interval.specs.Interval.{Arithmetic}
+use Rattle.limits.proofs.RefusalLaws.{none-last}
 use Rattle.gyroid.specs.declared.Description.{Description}
+use Rattle.gyroid.specs.declared.Gyroid.{Gyroid}
 use Rattle.gyroid.specs.declared.State.{State}
 use Rattle.gyroid.specs.declared.State.the-variants.{Inside, Outside, Unsettled}
 use Rattle.gyroid.specs.Fits.{Accepted}
@@ -34,11 +37,16 @@ use Rattle.table.specs.Read.{cellsIn, evaluatedIn, solidIn, recordsIn}
 use Rattle.table.specs.Bounds.{HeadFits, Fits, AllFit}
 use Rattle.table.specs.Told.{Told}
 use Rattle.table.proofs.BoundLaws.{good-fits}
+use Rattle.table.proofs.Written.{length-table}
 use Rattle.table.proofs.ReadBack.{told}
+use Rattle.sound.specs.Sound.{soundOf}
+use Rattle.sound.proofs.FreshLaws.{told-sound}
+use Rattle.layers.specs.Layers.{crossing}
 use Rattle.walk.specs.Walk.{stateAt, isSettled, settled, inside, cellsOf, evaluatedOf, solidOf, recordOf, recordsOf, headOf, tableOf}
 use Rattle.walk.specs.Walk.{roomRefusal, roomTable}
 use Rattle.walk.specs.Demand.{Every, Pairwise, recordBoxes, AllBelowZero, AllAboveZero, Undecided, Demand}
 use Rattle.walk.proofs.EndLaws.{lows-ticks, highs-ticks}
+use Rattle.walk.proofs.SoundLaws.{sound-cells, volumes-box, crossing-box}
 use Rattle.walk.proofs.RecordLaws.{length-records, record-boxes-are, every, pairwise}
 
 -- ---- a state by its number
@@ -70,6 +78,17 @@ number-below Unsettled = omega arith
 -- a box that is not settled stops only as one tick cube
 cube-stops : (s : State) (c : Bool) → s ≡ Unsettled → (isSettled s || c) ≡ true → c ≡ true
 cube-stops s c e t = subst (λ (r : State). (isSettled r || c) ≡ true) e t
+
+-- the room that 13 leaves
+pub room-left : (ar : Arithmetic) (g : Gyroid) (D : ℕ) (b : Box) (len : ℕ) → roomRefusal ar g D b len ≡ 0
+    → length (recordsOf ar g (cellsOf ar g D b)) + 1 ≤ len / 32
+unfolding roomRefusal
+room-left ar g D b len e =
+    omega (
+      arith,
+      length-records ar g (cellsOf ar g D b),
+      nltb→le (len / 32) (length (cellsOf ar g D b) + 1) (none-last (ltb (len / 32) (length (cellsOf ar g D b) + 1)) 12 e),
+    )
 
 module _ (ar : Arithmetic) (d : Description) (accepted : Accepted d) (D : ℕ) where
   -- ---- of one cell of the tree
@@ -140,7 +159,7 @@ module _ (ar : Arithmetic) (d : Description) (accepted : Accepted d) (D : ℕ) w
     covered x y z = ap (holders x y z) (record-boxes-are ar (leaf ar d) cs) ∙ cover (settled ar (leaf ar d)) longest fair-longest x y z D 0 b good
 
     -- ---- what a table says whose reading this is
-    module _ (t : List ℕ) (r : Told t head ms) where
+    module _ (t : List ℕ) (room : 32 * (length ms + 1) ≤ length t) (r : Told t head ms) where
       holders-are : (x y z : ℤ) → holders x y z (recordBoxes (recordsIn t)) ≡ cond (holdsCube x y z b) 1 0
       holders-are x y z = ap (λ (l : List Record). holders x y z (recordBoxes l)) (r .records-are) ∙ covered x y z
 
@@ -152,6 +171,13 @@ module _ (ar : Arithmetic) (d : Description) (accepted : Accepted d) (D : ℕ) w
 
       solid-read : solidIn t ≡ solidOf ar (leaf ar d) D b
       solid-read = ap (λ (h : Head). h .solid) (r .head-is)
+
+      cells-some : 1 ≤ length ms
+      cells-some = omega (arith, length-records ar (leaf ar d) cs, cells-many, leaves-least (settled ar (leaf ar d)) longest D b)
+
+      is-sound : soundOf t ≡ true
+      is-sound = told-sound r refl (sym (length-records ar (leaf ar d) cs)) cells-some room (sound-cells ar (leaf ar d) D shallow cs each)
+          (omega (arith, volumes-box ar (leaf ar d) D b good, volume-small b good))
 
       says : Demand ar d b D t
       says = record {
@@ -176,12 +202,17 @@ module _ (ar : Arithmetic) (d : Description) (accepted : Accepted d) (D : ℕ) w
         );
         evaluated-tree = evaluated-read;
         first = ap (λ (h : Head). h .first) (r .head-is);
-        ends = r .ends (omega (arith, length-records ar (leaf ar d) cs, cells-many, leaves-least (settled ar (leaf ar d)) longest D b));
+        ends = r .ends cells-some;
         solid = solid-read;
         rest = omega (arith, solid-read, ap (λ (h : Head). h .«open») (r .head-is), solid-most);
+        sound = is-sound;
+        layer-area = λ z. ap (crossing z) (r .records-are) ∙ crossing-box ar (leaf ar d) D b good z;
       }
 
     -- DEMAND 3 of what an accepted walk leaves
     pub demand : (len : ℕ) → roomRefusal ar (leaf ar d) D b len ≡ 0 → {t : List ℕ} → t ≡ roomTable ar (leaf ar d) D b len → Demand ar d b D t
     unfolding roomTable tableOf
-    demand len room e = subst⁻¹ (Demand ar d b D) (e ∙ rw (eq-eqb _ 0 room)) (says _ (read len))
+    demand len room e =
+        let fits : 32 * (length ms + 1) ≤ len = omega (arith, room-left ar (leaf ar d) D b len room) in
+        let long = length-table len head ms fits in
+        subst⁻¹ (Demand ar d b D) (e ∙ rw (eq-eqb _ 0 room)) (says _ (omega arith) (read len))

@@ -1,6 +1,7 @@
 -- The laws of the walk. Assumes nothing.
 mod StepLaws
 mod RecordLaws
+mod SoundLaws
 -- what is counted, what the writer answers, and what a walk returns and leaves: for this one and for others
 pub mod CountedLaws
 pub mod FilledLaws
@@ -8,6 +9,7 @@ pub mod CallLaws
 pub mod SameLaws
 pub mod EndLaws
 pub mod DemandLaws
+pub mod LayerLaws
 -- what demand 3 supposes is what no refusal leaves, both ways
 pub mod SupposedLaws
 pub mod TableLaws

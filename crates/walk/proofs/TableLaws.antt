@@ -3,21 +3,15 @@
 use mathlib.Core.Path.{_≡_, subst⁻¹}
 use mathlib.Core.List.{List}
 use Prim.Native.Nat.{ℕ, _+_, _/_, _≤_}
-use native.Mathlib.Omega.{arith}
-use lib.Dec.{ltb, nltb→le}
 use lib.IntN.{ℤ, natAbs}
 use lib.ListN.{length}
 use borrow.Author.Tests.{eq-eqb}
 use Rattle.interval.specs.Interval.{Arithmetic}
-use Rattle.limits.proofs.RefusalLaws.{none-last, neither}
+use Rattle.limits.proofs.RefusalLaws.{neither}
 use Rattle.gyroid.specs.declared.Description.{Description}
-use Rattle.gyroid.specs.declared.Gyroid.{Gyroid}
-use Rattle.gyroid.specs.declared.State.{State}
-use Rattle.gyroid.specs.declared.State.the-variants.{Inside, Outside, Unsettled}
 use Rattle.gyroid.specs.Refusals.{refusal}
 use Rattle.gyroid.specs.Fits.{Accepted}
 use Rattle.gyroid.specs.Leaf.{leaf}
-use Rattle.gyroid.specs.Residual.{stateNumber}
 use Rattle.tree.specs.Box.{Box, Good, boxFrom}
 use Rattle.table.specs.declared.Head.{Head}
 use Rattle.table.specs.Table.{Record}
@@ -27,8 +21,9 @@ use Rattle.walk.specs.Walk.{stateAt, cellsOf, recordsOf, headOf, tableOf
 use Rattle.walk.specs.Walk.{entryRefusal, roomRefusal, roomTable, walkNumber, walkTable}
 use Rattle.walk.specs.Demand.{Every}
 use Rattle.walk.proofs.CallLaws.{entered}
-use Rattle.walk.proofs.RecordLaws.{every, length-records}
-use Rattle.walk.proofs.DemandLaws.{each, head-fits, read}
+use Rattle.walk.proofs.RecordLaws.{every}
+use Rattle.walk.proofs.SoundLaws.{number-most}
+use Rattle.walk.proofs.DemandLaws.{room-left, each, head-fits, read}
 
 -- one of document 01's three states, and a box of the tree
 pub record InTree (m : Record) : Type 0 where
@@ -41,22 +36,6 @@ pub record Tells (slots : ℕ) (t : List ℕ) (h : Head) (ms : List Record) : Ty
   pub fits : length ms + 1 ≤ slots
   pub head-fits : HeadFits h
   pub records : Every InTree ms
-
-number-most : (s : State) → stateNumber s ≤ 3
-number-most Inside = omega arith
-number-most Outside = omega arith
-number-most Unsettled = omega arith
-
--- the table behind all refusals
-room-left : (ar : Arithmetic) (g : Gyroid) (D : ℕ) (b : Box) (len : ℕ) → roomRefusal ar g D b len ≡ 0
-    → length (recordsOf ar g (cellsOf ar g D b)) + 1 ≤ len / 32
-unfolding roomRefusal
-room-left ar g D b len e =
-    omega (
-      arith,
-      length-records ar g (cellsOf ar g D b),
-      nltb→le (len / 32) (length (cellsOf ar g D b) + 1) (none-last (ltb (len / 32) (length (cellsOf ar g D b) + 1)) 12 e),
-    )
 
 module _ (ar : Arithmetic) (d : Description) (lo hi : List ℤ) (D : ℤ) (t : List ℕ) where
   abbrev b : Box

@@ -22,10 +22,12 @@ use Rattle.gyroid.specs.Refusals.{refusal}
 use Rattle.gyroid.specs.Leaf.{leaf}
 use Rattle.gyroid.specs.Admitted.{Chosen, admitted}
 use Rattle.tree.specs.declared.Axis.{Axis}
-use Rattle.tree.specs.Box.{Box, boxFrom, low, high, lows, highs, oneCube, volume, holdsCube, holders}
+use Rattle.tree.specs.Box.{Box, boxFrom, low, high, lows, highs, oneCube, volume, holdsCube, holders, areaAt}
 use Rattle.tree.specs.Tree.{Cell}
 use Rattle.table.specs.Table.{Record}
 use Rattle.table.specs.Read.{firstIn, cellsIn, evaluatedIn, solidIn, openIn, TwoZeros, recordsIn, chainEnd}
+use Rattle.sound.specs.Sound.{soundOf}
+use Rattle.layers.specs.Layers.{crossing}
 use Rattle.walk.specs.Walk.{stateAt, cellsOf, evaluatedOf, solidOf}
 
 -- every cell of the table has a property
@@ -103,3 +105,7 @@ module _ (ar : Arithmetic) where
       pub ends : chainEnd (cellsIn t) t (firstIn t) ≡ 0
       pub solid : solidIn t ≡ solidOf ar (leaf ar d) D b
       pub rest : solidIn t + openIn t ≡ volume b
+      -- document 02's L5: the table is "sound",
+      pub sound : soundOf t ≡ true
+      -- and "the area of the cells crossing that layer" is, in each layer, the box's
+      pub layer-area : (z : ℤ) → crossing z (recordsIn t) ≡ areaAt z b
