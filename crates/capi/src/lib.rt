@@ -1,6 +1,6 @@
 // The public calls as functions of C, on numbers and lent slices. A description is 18 whole numbers in document 01's order; a box of whole
 // ticks is three lows and three highs; a box of doubles is the low and the high end of each axis; a triangle is three such boxes. Each
-// call returns a status: 0 where its values stand at the front of `out`, document 01's number where it refuses, 100 where nothing is
+// call returns a status: 0 where its values stand at the front of `out`, the documents' number where it refuses, 100 where nothing is
 // found, 101 where a slice has the wrong length. Nothing but those values is written.
 pub mod lengths; // what the lengths of the lent slices refuse
 pub mod reading; // what is read from a slice
@@ -8,6 +8,7 @@ mod writing; // what is left in one
 
 ghost use mathlib.Core.Path.{_≡_};
 ghost use lib.ListN.{length};
+ghost use Rattle.layers.specs.Layers.{layersNumber, layersReport, Reported};
 ghost use Rattle.capi.specs.Lent.{status, written};
 ghost use Rattle.capi.specs.Exports as exports;
 use crate::lengths::lengths;
@@ -43,6 +44,7 @@ use calls::calls::planes;
 use calls::calls::residual;
 use calls::calls::saturated;
 use grade::range::grade_range;
+use layers::calls::layers;
 use limits::refusals::or_else;
 use limits::refusals::refused;
 use walk::calls::walk;
@@ -315,4 +317,14 @@ pub extern "C" fn gyroid_walk(
         depth,
         table,
     )
+}
+
+// Writes the areas of the layers `low` to `high` − 1 of a table to `report`. Returns 0 or document 02's number; there is no `out`.
+#[no_mangle]
+pub extern "C" fn gyroid_layers(table: &[u8], low: i64, high: i64, report: &mut [u8]) -> u32
+    ensures answer { λ r. ⌜ r ≡ layersNumber (now (table .entry)) low high (length (now (report .entry))) ⌝ }
+    ensures left { λ _. ⌜ now (report .exit) ≡ layersReport (now (table .entry)) low high (now (report .entry)) ⌝ }
+    ensures reported { λ r. ⌜ (r ≡ 0 → Reported (now (table .entry)) low high (now (report .exit))) ⌝ }
+{
+    layers(table, low, high, report)
 }
