@@ -3,39 +3,15 @@
 // table follow, then zeros up to a whole word.
 ghost use Prim.Native.Nat.{_≤_};
 ghost use lib.ListN.{length};
+use crate::lent::LONGEST;
+use crate::lent::length_of;
+use crate::lent::read_padded;
+use crate::lent::set_unwritten;
 use crate::tally::Tally;
 use crate::words::bounds;
 use crate::words::entries;
 use crate::words::offset;
-use crate::words::read_front;
 use crate::words::read_words;
-
-// The bytes of the longest table.
-const LONGEST: usize = 4096;
-
-// The bytes of a table by their word. One that stands for a number below 0 goes round to more than any table has.
-fn length_of(n: u64) -> usize {
-    std::num::wrapping_sub_u64(n, 0x4000_0000_0000_0000) as usize
-}
-
-// The byte after this one in a lent table, whose bytes go round from 1 to 251 by steps of 37.
-fn next(byte: u8) -> u8 {
-    if byte > 214 {
-        return byte - 214;
-    }
-    byte + 37
-}
-
-// A table as the harness lends it: no byte is zero and none is as its neighbour, so that what is left, zeroed or moved can be told.
-fn set_unwritten(table: &mut [u8]) {
-    let mut byte: u8 = 1;
-    let mut i: usize = 0;
-    while i < table.len() {
-        table[i] = byte;
-        byte = next(byte);
-        i += 1;
-    }
-}
 
 // Whether the walk returns the case's status and leaves these bytes in the table.
 fn leaves(w: [u64; 42], table: &mut [u8], bytes: &[u8]) -> bool {
@@ -69,11 +45,10 @@ fn table_of(fd: i32, w: [u64; 42], n: usize, t: Tally) -> Tally
     requires { ⌜ n ≤ 4096 ⌝ }
 {
     let mut bytes = [0u8; LONGEST];
-    let padded = (n + 7) / 8 * 8;
-    if read_front(fd, &mut bytes, padded) < padded {
-        return broken(t);
+    if read_padded(fd, &mut bytes, n) {
+        return t.counted(b"walks", matches(w, &bytes, n));
     }
-    t.counted(b"walks", matches(w, &bytes, n))
+    broken(t)
 }
 
 fn case(fd: i32, t: Tally) -> Tally {

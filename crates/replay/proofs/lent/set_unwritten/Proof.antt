@@ -4,20 +4,20 @@ use Prim.Native.Nat.{_≤_, _-_}
 use lib.ListN.{length, length-set}
 use native.Mathlib.Omega.{arith}
 use borrow.Author.Needs.{needs}
-use Rattle.replay.proofs.walks.set_unwritten.Statement.{statement}
-use Rattle.replay.proofs.walks.set_unwritten.Tie as tie
+use Rattle.replay.proofs.lent.set_unwritten.Statement.{statement}
+use Rattle.replay.proofs.lent.set_unwritten.Tie as tie
 
 abbrev Inv-loop : tie.InvT-loop
-Inv-loop table₀ byte₀ i₀ table byte i = (i ≤ length table₀) × (length table ≡ length table₀)
+Inv-loop s₀ byte₀ i₀ s byte i = (i ≤ length s₀) × (length s ≡ length s₀)
 
 abbrev μ-loop : tie.MeasureT-loop
-μ-loop table₀ byte₀ i₀ table byte i = length table₀ - i
+μ-loop s₀ byte₀ i₀ s byte i = length s₀ - i
 
 loop-holds : tie.Need-loop-holds Inv-loop μ-loop
 loop-holds c = search needs
 
-slice-write-table : tie.Need-slice-write-table Inv-loop μ-loop
-slice-write-table c = search needs
+slice-write-s : tie.Need-slice-write-s Inv-loop μ-loop
+slice-write-s c = search needs
 
 next-requires : tie.Need-next-requires Inv-loop μ-loop
 next-requires c κs = search needs
@@ -31,7 +31,7 @@ loop-less c = omega arith
 loop-again : tie.Need-loop-again Inv-loop μ-loop
 loop-again c =
     let l = c .before .before .loop in
-    (omega arith, length-set (l .table) (l .i) (l .byte) ∙ l .inv .1)
+    (omega arith, length-set (l .s) (l .i) (l .byte) ∙ l .inv .1)
 
 same-length : tie.Need-same-length Inv-loop μ-loop
 same-length c = search needs
@@ -42,4 +42,4 @@ returns c = search needs
 pub set-unwritten-spec : {M : Type 1} → statement M
 set-unwritten-spec =
     tie.close
-    (tie.spec Inv-loop μ-loop loop-holds slice-write-table next-requires add-i loop-less loop-again same-length returns)
+    (tie.spec Inv-loop μ-loop loop-holds slice-write-s next-requires add-i loop-less loop-again same-length returns)
