@@ -1,5 +1,5 @@
-/* Asks the mark of one box and the residual behind it, and walks a box that is not settled, in the float state that
- * the proofs speak of. From the project's root:
+/* Asks the mark of one box and the residual behind it, walks a box that is not settled, and asks for the areas of a
+ * layer of it, in the float state that the proofs speak of. From the project's root:
  *
  *   rt staticlib capi
  *   cc -I bindings bindings/example.c target/staticlib/libcapi.a -o example && ./example
@@ -12,6 +12,11 @@
 /* The 32 bits at a place of a table. */
 static uint32_t number(const uint8_t *at) {
     return (uint32_t)at[0] | (uint32_t)at[1] << 8 | (uint32_t)at[2] << 16 | (uint32_t)at[3] << 24;
+}
+
+/* The 64 bits at a place of a report. */
+static uint64_t area(const uint8_t *at) {
+    return number(at) | (uint64_t)number(at + 4) << 32;
 }
 
 static int refused(uint32_t status) {
@@ -53,6 +58,15 @@ static int ask(void) {
         printf("state %d, depth %d, x from %" PRId32 " to %" PRId32 "\n", cell[4], cell[5], (int32_t)number(cell + 8),
                (int32_t)number(cell + 20));
     }
+
+    /* The lowest layer of its cells, in tick squares. */
+    uint8_t report[GYROID_LAYER];
+    status = gyroid_layers(table, sizeof table, 0, 1, report, sizeof report);
+    if (status != GYROID_FOUND) {
+        return refused(status);
+    }
+    printf("layer 0: inside %" PRIu64 ", outside %" PRIu64 ", unsettled %" PRIu64 "\n", area(report),
+           area(report + 8), area(report + 16));
     return 0;
 }
 

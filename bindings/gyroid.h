@@ -1,4 +1,4 @@
-/* The seventeen calls of libcapi.a, a static library for x86-64 that `rt staticlib capi` makes in target/staticlib.
+/* The eighteen calls of libcapi.a, a static library for x86-64 that `rt staticlib capi` makes in target/staticlib.
  *
  * Before you call
  *
@@ -12,7 +12,7 @@
  *   gyroid_float_state_leave(found);
  *
  * gyroid_float_state_is_default() says whether there is need. The state is the thread's; a thread starts with that
- * of its maker.
+ * of its maker. gyroid_layers computes with whole numbers alone, and may be called in any state.
  *
  * Lent slices
  *
@@ -22,11 +22,11 @@
  *   length     A pointer must be good for the number of entries beside it: the library cannot test that. With the
  *              number 0 it is not looked at, and may be null. A null pointer with another number is undefined, as
  *              any other bad pointer is.
- *   overlap    `out`, and the table of a walk, must not overlap another slice of the call. Slices that are only read
- *              may.
+ *   overlap    What a call writes, `out`, the table of a walk or a layer report, must not overlap another slice of
+ *              the call. Slices that are only read may.
  *   alignment  The library needs none: its code reads and writes entries at any address, and is tested at odd ones.
  *              The proofs speak of entries where C has them, int64_t and double at multiples of 8, and C itself asks
- *              for that. A table is bytes.
+ *              for that. A table is bytes, and so is a report.
  *   stack      A walk of depth 24 takes 44,224 bytes of stack, measured; no heap.
  *
  * Every call answers a status:
@@ -34,12 +34,13 @@
  *   GYROID_FOUND   `out` holds the call's values, from its first entry on
  *   1 to 13        a refusal, by document 01's number: GYROID_REFUSED_.. below. 14 never comes from the library: it
  *                  is the program `cells`' own, for a text that is not its line
+ *   15 to 17       a refusal of gyroid_layers, by document 02's number
  *   GYROID_NONE    nothing found
  *   GYROID_LENGTH  a lent slice has the wrong length: an argument that is not of its length, or an `out` shorter
  *                  than the call's values. Tested before all else.
  *
  * On any status but GYROID_FOUND nothing is written; on GYROID_FOUND nothing past the call's values. gyroid_walk
- * writes more: see there.
+ * writes more: see there. Every call takes a description but gyroid_layers, which takes a table and has no `out`.
  *
  * A description is 18 whole numbers, in ticks of 1/1024 mm and level counts of 1/1024:
  *
@@ -79,8 +80,8 @@ extern "C" {
 
 enum { GYROID_FOUND = 0, GYROID_NONE = 100, GYROID_LENGTH = 101 };
 
-/* The refusals, a name for each of document 01's conditions. Two conditions share the number 2 and three the number 3,
- * and the number does not tell which it was. The first that holds wins, in document 01's order. */
+/* The refusals, a name for each of the conditions of documents 01 and 02. Two conditions share the number 2 and three
+ * the number 3, and the number does not tell which it was. The first that holds wins, in the documents' order. */
 enum {
     GYROID_REFUSED_ENTRY = 1,          /* an entry outside its limits or kinds */
     GYROID_REFUSED_PERIOD = 2,         /* a period not above 0 */
@@ -97,7 +98,10 @@ enum {
     GYROID_REFUSED_FAR = 10,           /* an end or a point beyond 2^40 in size */
     GYROID_REFUSED_SPAN = 11,          /* gyroid_walk: a span below 1 */
     GYROID_REFUSED_DEPTH = 12,         /* gyroid_walk: a depth below 0 or above 24 */
-    GYROID_REFUSED_ROOM = 13           /* gyroid_walk: fewer slots than the cells and one more */
+    GYROID_REFUSED_ROOM = 13,          /* gyroid_walk: fewer slots than the cells and one more */
+    GYROID_REFUSED_TABLE = 15,         /* gyroid_layers: a table that is not sound */
+    GYROID_REFUSED_LAYERS = 16,        /* gyroid_layers: a layer run that is empty or leaves the coordinate limits */
+    GYROID_REFUSED_REPORT = 17         /* gyroid_layers: a report buffer of fewer than 24 bytes a layer */
 };
 
 enum { GYROID_DESCRIPTION = 18 };
@@ -105,6 +109,7 @@ enum { GYROID_NETWORK = 0, GYROID_SHEET = 1, GYROID_PRIMITIVE = 2 };
 enum { GYROID_START = 0, GYROID_RAMP = 1, GYROID_END = 2 };
 enum { GYROID_INSIDE = 1, GYROID_OUTSIDE = 2, GYROID_UNSETTLED = 3 };
 enum { GYROID_SLOT = 32 };
+enum { GYROID_LAYER = 24 };
 
 /* The float state: MXCSR. As a processor starts it is 0x1F80: round to nearest, denormals kept, every exception
  * masked and none flagged. The flags of past exceptions are its lowest six bits. */
@@ -227,6 +232,24 @@ uint32_t gyroid_fast(const int64_t *description, size_t description_length, cons
  * table has slots, however many there are. GYROID_LENGTH speaks of `bounds` alone. Never none. */
 uint32_t gyroid_walk(const int64_t *description, size_t description_length, const int64_t *bounds, size_t bounds_length,
                      int64_t depth, uint8_t *table, size_t table_length);
+
+/* The areas of the cells of a `table` in each tick layer from `low` to `high` - 1. Layer z lies between z and z + 1; a
+ * cell crosses the layers from its low in z to one before its high, each with all of its x span by its y span. The
+ * report has 24 bytes a layer, in the layers' order: the tick squares in inside, in outside and in unsettled cells (u64
+ * each, little endian). What lies behind them in `report` is as it was. The three add up to the area of the cells that
+ * cross the layer; cells that overlap each count in full.
+ *
+ * It takes no description, and any bytes for a table, which is only read. A table is sound where it records one cell at
+ * least, its chain from slot 0 visits exactly the slots 1 to the recorded number of cells, each once and inside the
+ * bytes, the last with next 0, and the cells have states 1 to 3, depths up to 24, boxes within -2^20 to 2^20 with spans
+ * of 1 or more, and volumes that add up to 2^63 at most. Nothing else of it is tested. A walk that was not refused
+ * leaves a sound table.
+ *
+ * Refusals, tested in this order: 15, the table is not sound; 16, the layer run is empty (`high` not above `low`) or
+ * leaves the coordinate limits (`low` below -2^20, `high` above 2^20); 17, the report buffer holds fewer than 24 bytes
+ * a layer. The report is then as it was. Never none, never GYROID_LENGTH. Table and report must not overlap. */
+uint32_t gyroid_layers(const uint8_t *table, size_t table_length, int64_t low, int64_t high, uint8_t *report,
+                       size_t report_length);
 
 #ifdef __cplusplus
 }

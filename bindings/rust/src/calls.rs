@@ -1,8 +1,10 @@
-//! The public calls, named as document 01 names them.
+//! The public calls, named as document 01 names them, and document 02's layer report.
 
 use crate::lend::{self, always, on_description, on_slice};
 use crate::raw;
-use crate::{Bounds, Derivatives, Description, Interval, Jet, Piece, Planes, Range, Refusal, State, Table};
+use crate::{
+    Bounds, Derivatives, Description, Interval, Jet, LAYER, Layers, Piece, Planes, Range, Refusal, State, Table,
+};
 
 /// A box, or a point in intervals: x, y, z.
 type World = [Interval; 3];
@@ -334,4 +336,36 @@ pub fn walk<'a>(
 ) -> Result<Table<'a>, Refusal> {
     lend::walk(description, &corners_of(bounds), depth, table)?;
     Ok(Table::filled(table))
+}
+
+/// The areas of a table's cells in each tick layer from `low` to `high` − 1, which the lent report then holds, 24 bytes
+/// a layer: [`Layers`] reads them. Layer z lies between z and z + 1. What lies behind the last layer in the report is as
+/// it was.
+///
+/// The table may be any bytes; of a [`Table`] the same is asked by [`Table::layers`]. Bytes that are no sound table are
+/// refused by 15, a layer run that is empty or leaves −2^20 to 2^20 by 16, and a report that is too short by 17, in this
+/// order; the report is then as it was. A table is sound where it records one cell at least, its chain visits exactly the
+/// slots 1 to the recorded number of cells, each once, and its cells have states 1 to 3, depths up to 24, boxes within
+/// the coordinate limits with spans of 1 or more, and volumes that add up to 2^63 at most. Where cells overlap, each
+/// counts in full.
+///
+/// ```
+/// use gyroid_cells::{Bounds, Description, layers, walk};
+///
+/// let core = Description::constant(10240, 2048);
+/// let mut bytes = [0; 3 * 32];
+/// walk(&core, Bounds { low: [0; 3], high: [1024; 3] }, 1, &mut bytes)?;
+///
+/// // The highest layer of the cube, half of which is inside, and the one above it.
+/// let mut report = [0; 2 * 24];
+/// let inside: Vec<u64> = layers(&bytes, 1023, 1025, &mut report)?.map(|layer| layer.inside).collect();
+/// assert_eq!(inside, [512 * 1024, 0]);
+/// assert_eq!(layers(&bytes[..64], 1023, 1025, &mut report).unwrap_err().number(), 15);
+/// # Ok::<(), gyroid_cells::Refusal>(())
+/// ```
+pub fn layers<'a>(table: &[u8], low: i64, high: i64, report: &'a mut [u8]) -> Result<Layers<'a>, Refusal> {
+    lend::layers(table, low, high, report)?;
+    // Not refused by 16 or 17, the run is not empty and its layers fit the report.
+    let run = (high - low) as usize;
+    Ok(Layers::filled(low, &report[..run * LAYER]))
 }

@@ -1,6 +1,6 @@
 //! The float state of a call. The proofs speak of IEEE 754 as a processor starts: round to nearest, denormals kept.
-//! Another library of the process may have set it otherwise, so each call sets that state and leaves the caller's as it
-//! was.
+//! Another library of the process may have set it otherwise, so each call that computes with doubles sets that state and
+//! leaves the caller's as it was.
 
 use core::arch::asm;
 

@@ -1,5 +1,5 @@
-//! Lends slices to the static library, in the default float state, and reads its status. All that is unsafe in this
-//! crate stands here and in float_state.rs.
+//! Lends slices to the static library, in the default float state where it computes with doubles, and reads its status.
+//! All that is unsafe in this crate stands here and in float_state.rs.
 
 use crate::float_state::in_default;
 use crate::raw::{self, FOUND, NONE, OnDescription, OnSlice};
@@ -68,5 +68,14 @@ pub(crate) fn walk(description: &Description, bounds: &[i64; 6], depth: i64, tab
         raw::gyroid_walk(d.as_ptr(), d.len(), bounds.as_ptr(), bounds.len(), depth, table.as_mut_ptr(), length)
     });
     assert!(found(status)?, "a walk always finds its cells");
+    Ok(())
+}
+
+/// The report computes with whole numbers alone, which the float state does not change, so it is made in the caller's.
+pub(crate) fn layers(table: &[u8], low: i64, high: i64, report: &mut [u8]) -> Result<(), Refusal> {
+    let length = report.len();
+    // Both slices are the caller's, alive for the call, and the report is lent to it alone.
+    let status = unsafe { raw::gyroid_layers(table.as_ptr(), table.len(), low, high, report.as_mut_ptr(), length) };
+    assert!(found(status)?, "a layer report always finds its areas");
     Ok(())
 }

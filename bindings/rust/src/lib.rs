@@ -3,7 +3,8 @@
 //! A core is a [`Description`] in whole ticks (1/1024 mm) and level counts (1/1024), of one [`Surface`] or another. Each
 //! call takes a description and compiles it; nothing is kept between calls, nothing is allocated, and every call ends.
 //! What a call cannot work on it refuses by a number: [`Refusal`]. Where a call may find nothing, it answers an
-//! [`Option`]. [`walk`] marks a whole part box and leaves its cells in a table that the caller lends.
+//! [`Option`]. [`walk`] marks a whole part box and leaves its cells in a table that the caller lends. [`layers`] takes
+//! such a table in place of a description, and says what area its cells have in each layer.
 //!
 //! ```
 //! use gyroid_cells::{Description, Interval, State, box_state, residual};
@@ -24,7 +25,8 @@
 //!
 //! The proofs speak of IEEE 754 as a processor starts, and another library of the process may have changed that: one
 //! built with `-ffast-math` does. So each call sets the default float state (MXCSR 0x1F80) for its time and restores
-//! the caller's, exception flags and all. The functions of [`raw`] do not.
+//! the caller's, exception flags and all; only [`layers`], which computes with whole numbers alone, has no need to. The
+//! functions of [`raw`] do not.
 //!
 //! The static library is made by `rt staticlib capi` in the project's root; the build runs that command where the
 //! library is missing. `GYROID_ARCHIVE_DIR` names another directory; a relative one is read from where cargo was
@@ -35,6 +37,7 @@
 mod calls;
 mod description;
 mod float_state;
+mod layers;
 mod lend;
 pub mod raw;
 mod refusal;
@@ -43,6 +46,7 @@ mod values;
 
 pub use calls::*;
 pub use description::{Description, Surface};
+pub use layers::{LAYER, Layer, Layers};
 pub use refusal::Refusal;
 pub use table::{Cell, Cells, Head, SLOT, Table};
 pub use values::{Bounds, Derivatives, Interval, Jet, Piece, Planes, Range, State, UnknownNumber};

@@ -1,5 +1,6 @@
 //! The static library's functions as they are. bindings/gyroid.h says what each takes and answers. They compute in the
-//! float state that they find: who calls them sees to it that it is the default one.
+//! float state that they find: who calls them sees to it that it is the default one, but for [`gyroid_layers`], which
+//! computes with whole numbers alone.
 //!
 //! ```
 //! use gyroid_cells::{Description, raw};
@@ -14,7 +15,8 @@
 //! # Safety
 //!
 //! Every pointer must be valid for the number of entries that follows it, for reading, and `out`, which is a walk's
-//! table, for writing; one with the number 0 may be anything. `out` must not overlap another slice.
+//! table, and `report` for writing; one with the number 0 may be anything. `out` and `report` must not overlap another
+//! slice.
 
 /// A call on a description alone.
 pub type OnDescription<T> = unsafe extern "C" fn(*const i64, usize, *mut T, usize) -> u32;
@@ -63,4 +65,16 @@ calls! {
     gyroid_fast_distance(point: *const f64, point_length: usize) -> f64;
     gyroid_fast(point: *const f64, point_length: usize) -> f64;
     gyroid_walk(bounds: *const i64, bounds_length: usize, depth: i64) -> u8;
+}
+
+unsafe extern "C" {
+    /// `gyroid_layers` of bindings/gyroid.h. It takes no description.
+    pub fn gyroid_layers(
+        table: *const u8,
+        table_length: usize,
+        low: i64,
+        high: i64,
+        report: *mut u8,
+        report_length: usize,
+    ) -> u32;
 }

@@ -1,10 +1,10 @@
-//! A refusal: document 01's number, and what it says.
+//! A refusal: the number of document 01 or 02, and what it says.
 
 use crate::UnknownNumber;
 use core::fmt;
 
-/// Why a call could not work on its input, by document 01's number, 1 to 13. The first that holds wins, in document
-/// 01's order.
+/// Why a call could not work on its input, by document 01's number, 1 to 13, or by document 02's, 15 to 17. The first
+/// that holds wins, in the documents' order.
 ///
 /// A number that was kept is read back; one that no call answers is none. 14 is the program `cells`' own: a text that
 /// is not its line.
@@ -21,7 +21,7 @@ use core::fmt;
 pub struct Refusal(u32);
 
 impl Refusal {
-    /// Document 01's number.
+    /// The number of document 01 or 02.
     ///
     /// ```
     /// use gyroid_cells::{Description, graded};
@@ -55,6 +55,9 @@ impl Refusal {
             11 => "a span of the box is below 1",
             12 => "the depth is below 0 or above 24",
             13 => "the table has too few slots for the cells",
+            15 => "the table is not sound",
+            16 => "the layer run is empty or leaves the coordinate limits",
+            17 => "the report buffer holds fewer than 24 bytes a layer",
             other => unreachable!("{other} is no refusal"),
         }
     }
@@ -64,7 +67,7 @@ impl TryFrom<u32> for Refusal {
     type Error = UnknownNumber;
 
     fn try_from(number: u32) -> Result<Self, UnknownNumber> {
-        if (1..=13).contains(&number) { Ok(Self(number)) } else { Err(UnknownNumber(number)) }
+        if matches!(number, 1..=13 | 15..=17) { Ok(Self(number)) } else { Err(UnknownNumber(number)) }
     }
 }
 

@@ -1,6 +1,6 @@
 //! The table that a walk leaves, for reading: a head, then a chain of cells, in slots of 32 bytes, little endian.
 
-use crate::{Bounds, State};
+use crate::{Bounds, Layers, Refusal, State};
 
 /// The bytes of a slot: a walk of n cells wants a table of n + 1 slots.
 ///
@@ -202,6 +202,26 @@ impl<'a> Table<'a> {
     /// ```
     pub fn cells(&self) -> Cells<'a> {
         Cells { table: *self, slot: self.u32_at(0) }
+    }
+
+    /// The areas of the cells in each tick layer from `low` to `high` − 1: the call [`layers`](crate::layers). The table
+    /// of a walk is sound; one that was read need not be, and is then refused by 15.
+    ///
+    /// ```
+    /// use gyroid_cells::{Bounds, Description, walk};
+    ///
+    /// let core = Description::constant(10240, 2048);
+    /// let (mut bytes, mut report) = ([0; 96], [0; 1024 * 24]);
+    /// let table = walk(&core, Bounds { low: [0; 3], high: [1024; 3] }, 1, &mut bytes)?;
+    ///
+    /// for layer in table.layers(0, 1024, &mut report)? {
+    ///     assert_eq!((layer.inside, layer.area()), (512 * 1024, 1024 * 1024));
+    /// }
+    /// assert_eq!(table.layers(0, 1025, &mut report).unwrap_err().number(), 17);
+    /// # Ok::<(), gyroid_cells::Refusal>(())
+    /// ```
+    pub fn layers<'b>(&self, low: i64, high: i64, report: &'b mut [u8]) -> Result<Layers<'b>, Refusal> {
+        crate::layers(self.bytes, low, high, report)
     }
 
     fn at<const N: usize>(&self, place: usize) -> [u8; N] {

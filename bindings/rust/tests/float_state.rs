@@ -122,6 +122,13 @@ fn every_other_call() {
     same(|| fast(&core, point));
 }
 
+/// The layer report has no guard, and needs none.
+#[test]
+fn layer_reports() {
+    let table = guarded(8);
+    same(|| layers(&table, PART.low[2], PART.high[2], &mut [0; 320 * LAYER]).map(|layers| layers.collect::<Vec<_>>()));
+}
+
 #[test]
 fn refusals() {
     let refused = || walk(&ramp(), PART, 25, &mut []).map(|table| table.len()).map_err(Refusal::number);

@@ -1,6 +1,6 @@
 //! bindings/gyroid.h says the same as this crate: version, statuses, surfaces, states, pieces, refusals.
 
-use gyroid_cells::{Description, Piece, Refusal, SLOT, State, Surface, graded, raw};
+use gyroid_cells::{Description, LAYER, Piece, Refusal, SLOT, State, Surface, graded, raw};
 use std::collections::BTreeMap;
 
 const HEADER: &str = include_str!("../../gyroid.h");
@@ -32,6 +32,7 @@ fn numbers() {
     same("GYROID_NONE", raw::NONE);
     same("GYROID_LENGTH", raw::LENGTH);
     same("GYROID_SLOT", SLOT as u32);
+    same("GYROID_LAYER", LAYER as u32);
     same("GYROID_NETWORK", Surface::Network as u32);
     same("GYROID_PRIMITIVE", Surface::Primitive as u32);
     same("GYROID_START", Piece::Start as u32);
@@ -65,4 +66,6 @@ fn refusals() {
     assert_eq!(numbers, refusals);
     assert_eq!(constants["GYROID_REFUSED_SHEET"], 3);
     assert_eq!(constants["GYROID_REFUSED_ROOM"], 13);
+    let layers = ["TABLE", "LAYERS", "REPORT"].map(|name| constants[format!("GYROID_REFUSED_{name}").as_str()]);
+    assert_eq!(layers, [15, 16, 17]);
 }
