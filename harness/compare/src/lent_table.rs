@@ -7,8 +7,8 @@ use gyroid_cells::raw::{self, LENGTH};
 use request::{Answer, Call, Request, Walked, unwritten};
 use std::ptr::null_mut;
 
-/// Bytes on either side of the table; an odd number, so that no slot is aligned.
-const MARGIN: usize = 61;
+/// Bytes on either side of what is lent; an odd number, so that no slot is aligned.
+pub const MARGIN: usize = 61;
 /// The lengths of the description and of the bounds.
 const LENGTHS: [[usize; 2]; 9] = [[18, 6], [17, 6], [19, 6], [0, 6], [18, 0], [18, 5], [18, 7], [17, 5], [19, 7]];
 
@@ -23,10 +23,10 @@ fn lend(request: &Request, [length, lent]: [usize; 2], around: &mut [u8]) -> u32
     unsafe { raw::gyroid_walk(d.first(length), length, bounds.first(lent), lent, request.depth, at, room) }
 }
 
-/// A table amid its margins.
-fn amid(table: &[u8]) -> Vec<u8> {
+/// Bytes amid their margins.
+pub fn amid(bytes: &[u8]) -> Vec<u8> {
     let margin = unwritten(MARGIN);
-    [&margin, table, &margin].concat()
+    [&margin, bytes, &margin].concat()
 }
 
 /// What these lengths ask for, where `walked` is the answer to the right ones.

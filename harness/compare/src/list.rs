@@ -87,7 +87,8 @@ fn answered(request: &Request, answer: &Answer) -> Option<(u8, Vec<u64>)> {
         Answer::Found(found) => Some((0, values(request, found)?)),
         Answer::None => Some((100, Vec::new())),
         Answer::Refused(n) => Some((u8::try_from(*n).ok()?, Vec::new())),
-        Answer::Walked(_) | Answer::Panicked | Answer::Unmade | Answer::Unavailable => None,
+        Answer::Walked(_) | Answer::Reported(_) => None,
+        Answer::Panicked | Answer::Unmade | Answer::Unavailable => None,
     }
 }
 

@@ -1,7 +1,8 @@
 //! Our answer to a request, by the bindings that a service links.
 
+use crate::lent_report;
 use gyroid_cells::{Bounds, Description, Interval, Jet, Piece, Refusal};
-use request::{Answer, Call, Request, Value, Walked, unwritten};
+use request::{Answer, Call, LayerRequest, Reported, Request, Value, Walked, unwritten};
 
 /// The row of three intervals that starts at a double.
 fn world(doubles: &[f64], first: usize) -> [Interval; 3] {
@@ -81,4 +82,12 @@ pub fn answer(request: &Request) -> Answer {
         Ok(None) => Answer::None,
         Err(refusal) => Answer::Refused(refusal.number()),
     }
+}
+
+/// A table that the bindings lend to a layer report cannot change, so the static library is asked itself: what it leaves
+/// there is compared too.
+pub fn layers(request: &LayerRequest) -> Answer {
+    let (mut table, mut report) = (request.table.clone(), unwritten(request.report));
+    let status = lent_report::lend(request, &mut table, &mut report);
+    Answer::Reported(Reported { status, layers: request.layers(), report, table })
 }

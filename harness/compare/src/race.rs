@@ -31,7 +31,7 @@ fn core() -> Request {
 }
 
 /// The same on a ramp along all of x; more than 100,000 cells too.
-fn linear() -> Request {
+pub fn linear() -> Request {
     let mut linear = core();
     let d = &mut linear.description;
     (d[LEVEL_KIND], d[TO], d[START], d[END]) = (LINEAR, 20480, -RAMP, RAMP);
@@ -64,7 +64,7 @@ pub fn cases() -> [Case; 6] {
 }
 
 /// A walk that leaves a table and answers its status.
-type Walk = fn(&Request, &mut [u8]) -> u32;
+pub type Walk = fn(&Request, &mut [u8]) -> u32;
 /// The same as a function of C.
 type RawWalk = unsafe extern "C" fn(*const i64, usize, *const i64, usize, i64, *mut u8, usize) -> u32;
 
@@ -130,19 +130,20 @@ fn median(mut times: Vec<Duration>) -> Duration {
     times[times.len() / 2]
 }
 
-/// The median time of each side. In each round every side has its turn, so that a slow spell of the machine meets all.
-fn medians(sides: &[Walk], case: &Case, table: &mut [u8]) -> Vec<Duration> {
-    let mut times = vec![vec![]; sides.len()];
+/// The median of the times that each of so many sides takes. In each round every side has its turn, so that a slow spell
+/// of the machine meets all.
+pub fn medians(sides: usize, mut timed: impl FnMut(usize) -> Duration) -> Vec<Duration> {
+    let mut times = vec![vec![]; sides];
     for _ in 0..ROUNDS {
-        for (side, times) in sides.iter().zip(&mut times) {
-            times.push(timed(*side, case, table));
+        for (side, times) in times.iter_mut().enumerate() {
+            times.push(timed(side));
         }
     }
     times.into_iter().map(median).collect()
 }
 
 /// The table of a walk; the error says why there is none.
-fn table(walk: Walk, request: &Request) -> Result<Vec<u8>, String> {
+pub fn table(walk: Walk, request: &Request) -> Result<Vec<u8>, String> {
     let mut table = unwritten(request.table);
     match walk(request, &mut table) {
         raw::FOUND => Ok(table),
@@ -161,6 +162,6 @@ pub fn race(case: &Case) -> Result<Race, String> {
         }
     }
     let cells = gyroid_cells::Table::read(&left).ok_or("a table with a broken chain")?.head().cells;
-    let times = medians(&sides, case, &mut left);
+    let times = medians(sides.len(), |side| timed(sides[side], case, &mut left));
     Ok(Race { cells, one_pass: times[0], two_passes: times[1], original: times.get(2).copied() })
 }

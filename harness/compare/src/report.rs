@@ -1,8 +1,7 @@
 //! The text of a comparison.
 
-use crate::entries::{KIND, PRIMITIVE};
-use crate::tally::{Otherwise, Tally, judge};
-use request::{Answer, Call, Request};
+use crate::tally::{Asked, Otherwise, Tally};
+use request::{Answer, Request};
 
 pub fn head() -> String {
     format!(
@@ -12,33 +11,46 @@ pub fn head() -> String {
 }
 
 /// A call's counts: cases, compared by value, those of kind 2 among them, refusals and none compared, and what document 01 adds.
-pub fn row(call: Call, tally: &Tally) -> String {
+pub fn row<R>(call: &str, tally: &Tally<R>) -> String {
     let added = [1, 6, 9, 10].map(|n| tally.added.get(&n).copied().unwrap_or(0));
     let counts = [tally.cases, tally.values, tally.primitive, tally.refusals, tally.none];
     let numbers = counts.iter().chain(&added).map(|n| format!("{n:>10}"));
-    format!("{:16}{}", call.name(), numbers.collect::<String>())
+    format!("{call:16}{}", numbers.collect::<String>())
 }
 
-fn shown(request: &Request) -> String {
-    let judged = judge(request);
+fn shown(request: &impl Asked) -> String {
+    let judged = request.judge();
     let (ours, original) = (&judged.ours, &judged.original);
-    let bytes = tables(ours, original).map_or(String::new(), |text| format!("\n    {text}"));
-    let beside = if request.description[KIND] == PRIMITIVE { "document 02" } else { "original" };
+    let bytes: String = bytes(ours, original).iter().map(|text| format!("\n    {text}")).collect();
+    let document = judged.primitive || matches!(original, Answer::Reported(_));
+    let beside = if document { "document 02" } else { "original" };
     format!("    {request}\n    here: {ours}\n    {beside}: {original}{bytes}")
 }
 
-/// Where two tables first differ, which their cells need not show.
-fn tables(ours: &Answer, original: &Answer) -> Option<String> {
-    let (Answer::Walked(ours), Answer::Walked(original)) = (ours, original) else { return None };
-    let at = ours.table.iter().zip(&original.table).position(|(a, b)| a != b)?;
-    let (a, b) = (ours.table[at], original.table[at]);
-    Some(format!("byte {at} of the table is {a} here, and {b} by the plain walk"))
+/// What two answers leave in bytes: its name, ours and the other's.
+type Left<'a> = (&'a str, &'a [u8], &'a [u8]);
+
+/// Where those bytes first differ, which the answers' text need not show.
+fn bytes(ours: &Answer, original: &Answer) -> Vec<String> {
+    let left: Vec<Left> = match (ours, original) {
+        (Answer::Walked(a), Answer::Walked(b)) => vec![("table", &a.table, &b.table)],
+        (Answer::Reported(a), Answer::Reported(b)) => {
+            vec![("report", &a.report, &b.report), ("table", &a.table, &b.table)]
+        }
+        _ => vec![],
+    };
+    left.into_iter().filter_map(first_other).collect()
+}
+
+fn first_other((name, ours, plain): Left) -> Option<String> {
+    let at = ours.iter().zip(plain).position(|(a, b)| a != b)?;
+    Some(format!("byte {at} of the {name} is {} here, and {} by the plain one", ours[at], plain[at]))
 }
 
 /// What the original does where document 01 adds a refusal, each with the smallest request found.
-pub fn otherwise(call: Call, tally: &Tally) -> Vec<String> {
+pub fn otherwise(name: &str, tally: &Tally<Request>) -> Vec<String> {
     let listed = tally.otherwise.iter().map(|(key, sample)| {
-        let (name, number, count) = (call.name(), key.0, sample.count);
+        let (number, count) = (key.0, sample.count);
         let does = match key.1 {
             Otherwise::Found => "finds values",
             Otherwise::None => "finds nothing",
@@ -54,13 +66,13 @@ pub fn otherwise(call: Call, tally: &Tally) -> Vec<String> {
 }
 
 /// The unlisted differences, each with the smallest request found.
-pub fn differences(call: Call, tally: &Tally) -> Vec<String> {
+pub fn differences<R: Asked>(name: &str, tally: &Tally<R>) -> Vec<String> {
     let listed = tally.differences.iter().filter_map(|(kinds, sample)| {
         let request = tally.smallest_difference(kinds)?;
-        let number = judge(&request).refusal;
+        let number = request.judge().refusal;
         let asked = number.map_or("no refusal".into(), |n| format!("refusal {n}"));
-        let (name, count) = (call.name(), sample.count);
-        Some(format!("{name}: {count} differences of this kind; document 01 asks for {asked}\n{}", shown(&request)))
+        let count = sample.count;
+        Some(format!("{name}: {count} differences of this kind; the documents ask for {asked}\n{}", shown(&request)))
     });
     listed.collect()
 }

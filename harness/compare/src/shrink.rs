@@ -2,13 +2,29 @@
 
 use crate::entries::{FROM, TO};
 use crate::walk;
-use request::Request;
+use request::{LayerRequest, Request};
 
 /// What makes one request smaller than another.
 pub type Size = (usize, u128);
 
-fn whole_size(n: i64) -> u128 {
-    2 * u128::from(n.unsigned_abs()) + u128::from(n < 0)
+/// A request that can be made smaller, place by place.
+pub trait Shrink: Clone {
+    fn size(&self) -> Size;
+
+    fn places(&self) -> usize;
+
+    /// Requests that differ from this one in one place, and may be asked.
+    fn variants(&self, place: usize) -> Vec<Self>;
+}
+
+/// The size of all numbers: how many are not zero, and the sum of their sizes.
+fn total(numbers: impl Iterator<Item = (bool, u128)>) -> Size {
+    numbers.fold((0, 0), |(count, sum), (some, size)| (count + usize::from(some), sum + size))
+}
+
+/// Whether a whole number is not zero, and its size.
+fn whole_size(n: i64) -> (bool, u128) {
+    (n != 0, 2 * u128::from(n.unsigned_abs()) + u128::from(n < 0))
 }
 
 /// Few significant bits and an exponent near zero are small; what is not finite is not.
@@ -25,12 +41,67 @@ fn double_size(v: f64) -> u128 {
     2 * u128::from(1 + places + exponent.unsigned_abs()) + sign
 }
 
-pub fn size(request: &Request) -> Size {
-    let whole = request.description.iter().chain(request.whole());
-    let whole = whole.map(|n| (*n != 0, whole_size(*n)));
-    let doubles = request.doubles().iter().map(|v| (*v != 0.0, double_size(*v)));
-    let last = [request.piece.into(), request.depth, request.table as i64].map(|n| (n != 0, whole_size(n)));
-    whole.chain(doubles).chain(last).fold((0, 0), |(count, sum), (some, size)| (count + usize::from(some), sum + size))
+impl Shrink for Request {
+    fn size(&self) -> Size {
+        let whole = self.description.iter().chain(self.whole()).map(|n| whole_size(*n));
+        let doubles = self.doubles().iter().map(|v| (*v != 0.0, double_size(*v)));
+        let last = [self.piece.into(), self.depth, self.table as i64].map(whole_size);
+        total(whole.chain(doubles).chain(last))
+    }
+
+    fn places(&self) -> usize {
+        PLACES
+    }
+
+    /// A smaller box may be a larger walk, which is not asked for.
+    fn variants(&self, place: usize) -> Vec<Self> {
+        variants(self, place).into_iter().filter(|smaller| walk::most_cells(smaller) <= 1 << 12).collect()
+    }
+}
+
+/// The 32-bit numbers of a table; what is left of one at its end is none.
+fn numbers(table: &[u8]) -> impl Iterator<Item = i64> {
+    table.chunks_exact(4).map(|bytes| i32::from_le_bytes(bytes.try_into().expect("4 bytes")).into())
+}
+
+/// A table with a number in another's place.
+fn with_number(table: &[u8], place: usize, number: i64) -> Vec<u8> {
+    let mut table = table.to_vec();
+    table[4 * place..][..4].copy_from_slice(&(number as i32).to_le_bytes());
+    table
+}
+
+/// The ends of the run, the report's length and the table's, then the numbers of the table.
+impl Shrink for LayerRequest {
+    fn size(&self) -> Size {
+        let lengths = [self.report, self.table.len()].map(|length| length as i64);
+        total([self.low, self.high].into_iter().chain(lengths).chain(numbers(&self.table)).map(whole_size))
+    }
+
+    fn places(&self) -> usize {
+        4 + self.table.len() / 4
+    }
+
+    fn variants(&self, place: usize) -> Vec<Self> {
+        let lengths = |length: usize| smaller(length as i64).into_iter().filter_map(|n| usize::try_from(n).ok());
+        match place {
+            0 => smaller(self.low).into_iter().map(|low| Self { low, ..self.clone() }).collect(),
+            1 => smaller(self.high).into_iter().map(|high| Self { high, ..self.clone() }).collect(),
+            2 => lengths(self.report).map(|report| Self { report, ..self.clone() }).collect(),
+            3 => {
+                let shorter = lengths(self.table.len()).filter_map(|length| self.table.get(..length));
+                shorter.map(|table| Self { table: table.to_vec(), ..self.clone() }).collect()
+            }
+            // A shorter table has fewer.
+            _ => match numbers(&self.table).nth(place - 4) {
+                Some(number) => {
+                    let tables = smaller(number).into_iter().map(|n| with_number(&self.table, place - 4, n));
+                    tables.map(|table| Self { table, ..self.clone() }).collect()
+                }
+                None => Vec::new(),
+            },
+        }
+    }
 }
 
 /// Numbers nearer to zero, the nearest first.
@@ -118,23 +189,17 @@ fn variants(r: &Request, place: usize) -> Vec<Request> {
     }
 }
 
-/// A smaller box may be a larger walk, which is not asked for.
-fn affordable(request: &Request) -> bool {
-    walk::most_cells(request) <= 1 << 12
-}
-
 /// The smallest request found from this one on which `still` holds.
-pub fn shrink(request: Request, still: impl Fn(&Request) -> bool) -> Request {
+pub fn shrink<R: Shrink>(request: R, still: impl Fn(&R) -> bool) -> R {
     let mut best = request;
     loop {
-        let before = size(&best);
-        for place in 0..PLACES {
-            let mut candidates = variants(&best, place).into_iter();
-            let smaller =
-                candidates.find(|smaller| size(smaller) < size(&best) && affordable(smaller) && still(smaller));
+        let before = best.size();
+        for place in 0..best.places() {
+            let mut candidates = best.variants(place).into_iter();
+            let smaller = candidates.find(|smaller| smaller.size() < best.size() && still(smaller));
             best = smaller.unwrap_or(best);
         }
-        if size(&best) == before {
+        if best.size() == before {
             return best;
         }
     }
@@ -143,8 +208,8 @@ pub fn shrink(request: Request, still: impl Fn(&Request) -> bool) -> Request {
 #[cfg(test)]
 mod tests {
     use super::*;
-    use crate::added;
-    use request::Call;
+    use crate::{added, layer_cases, layers, tables};
+    use request::{Call, LAYER};
 
     #[test]
     fn finds_the_limit() {
@@ -155,6 +220,15 @@ mod tests {
         let still = |r: &Request| added::refusal(r).is_none() && rises(&r.description);
         let least = shrink(request, still).to_string();
         assert_eq!(least, "graded 1 0 1 0 0 0 40 0 0 0 4 1 0 0 0 0 0 0");
+    }
+
+    #[test]
+    fn finds_the_least_sound_table_of_three_cells() {
+        let request = layer_cases::named().swap_remove(0);
+        let least = shrink(request, |r| layers::answer(r).refused().is_none());
+        assert_eq!((least.low, least.high, least.report), (0, 1, LAYER));
+        let cube = (1, [0, 0, 0, 1, 1, 1]);
+        assert_eq!(least.table, tables::bytes(&tables::chained(&[cube; 3])));
     }
 
     #[test]

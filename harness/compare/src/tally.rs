@@ -1,28 +1,50 @@
 //! Judges a request by both sides' answers, and counts.
 
 use crate::entries::{KIND, PRIMITIVE};
-use crate::{added, cases, original, ours, shrink};
-use request::{Answer, Call, Request};
+use crate::shrink::{self, Shrink, Size};
+use crate::{added, cases, layer_cases, layer_chances, layers, original, ours};
+use request::{Answer, Call, LayerRequest, Request};
 use std::collections::BTreeMap;
+use std::fmt::Display;
 use std::thread;
 
-/// Both answers to a request, and the number by which document 01 refuses it.
+/// Both answers to a request, and the number by which document 01 refuses it; a layer report is refused by document 02.
 pub struct Judged {
     pub ours: Answer,
     pub original: Answer,
     pub refusal: Option<u32>,
     /// Where the original lacks that refusal.
     pub added: Option<u32>,
+    /// Whether it is about the primitive surface.
+    pub primitive: bool,
 }
 
-pub fn judge(request: &Request) -> Judged {
-    let original = original::answer(request);
-    let refusal = match request.call {
-        // 13 wants the cells counted, which the plain walk has done.
-        Call::Walk => original.refused(),
-        _ => added::refusal(request),
-    };
-    Judged { ours: ours::answer(request), original, refusal, added: added::added(request) }
+/// A request that both sides answer.
+pub trait Asked: Shrink + Display {
+    fn judge(&self) -> Judged;
+}
+
+impl Asked for Request {
+    fn judge(&self) -> Judged {
+        let original = original::answer(self);
+        let refusal = match self.call {
+            // 13 wants the cells counted, which the plain walk has done.
+            Call::Walk => original.refused(),
+            _ => added::refusal(self),
+        };
+        // A level has no surface.
+        let primitive = self.call != Call::GradeRange && self.description[KIND] == PRIMITIVE;
+        Judged { ours: ours::answer(self), original, refusal, added: added::added(self), primitive }
+    }
+}
+
+/// The original has no layer report: the plain one stands in, and has every refusal.
+impl Asked for LayerRequest {
+    fn judge(&self) -> Judged {
+        let original = layers::answer(self);
+        let refusal = original.refused();
+        Judged { ours: ours::layers(self), original, refusal, added: None, primitive: false }
+    }
 }
 
 impl Judged {
@@ -58,7 +80,7 @@ pub enum Otherwise {
 
 fn otherwise(original: &Answer) -> Otherwise {
     match original {
-        Answer::Found(_) | Answer::Walked(_) => Otherwise::Found,
+        Answer::Found(_) | Answer::Walked(_) | Answer::Reported(_) => Otherwise::Found,
         Answer::None => Otherwise::None,
         Answer::Refused(_) => Otherwise::RefusedByAnother,
         Answer::Panicked => Otherwise::Panicked,
@@ -67,39 +89,43 @@ fn otherwise(original: &Answer) -> Otherwise {
 }
 
 /// How often a thing was seen, and its smallest request; of two alike the earlier case's.
-#[derive(Default)]
-pub struct Sample {
+pub struct Sample<R> {
     pub count: u64,
-    smallest: Option<(shrink::Size, u64, Request)>,
+    smallest: Option<(Size, u64, R)>,
 }
 
-impl Sample {
-    fn see(&mut self, index: u64, request: &Request) {
+impl<R> Default for Sample<R> {
+    fn default() -> Self {
+        Self { count: 0, smallest: None }
+    }
+}
+
+impl<R: Asked> Sample<R> {
+    fn see(&mut self, index: u64, request: &R) {
         self.count += 1;
-        self.keep(Some((shrink::size(request), index, *request)));
+        self.keep(Some((request.size(), index, request.clone())));
     }
 
-    fn keep(&mut self, other: Option<(shrink::Size, u64, Request)>) {
-        let order = |s: &(shrink::Size, u64, Request)| (s.0, s.1);
-        self.smallest = self.smallest.into_iter().chain(other).min_by_key(order);
+    fn keep(&mut self, other: Option<(Size, u64, R)>) {
+        let order = |s: &(Size, u64, R)| (s.0, s.1);
+        self.smallest = self.smallest.take().into_iter().chain(other).min_by_key(order);
     }
 
-    fn merge(&mut self, other: Sample) {
+    fn merge(&mut self, other: Self) {
         self.count += other.count;
         self.keep(other.smallest);
     }
 
     /// The smallest request, made smaller while `still` holds.
-    fn shrunk(&self, still: impl Fn(&Request) -> bool) -> Option<Request> {
-        self.smallest.map(|(_, _, request)| shrink::shrink(request, still))
+    fn shrunk(&self, still: impl Fn(&R) -> bool) -> Option<R> {
+        self.smallest.as_ref().map(|(_, _, request)| shrink::shrink(request.clone(), still))
     }
 }
 
 type Kinds = [(u8, u32); 2];
 
 /// The counts of one call.
-#[derive(Default)]
-pub struct Tally {
+pub struct Tally<R> {
     pub cases: u64,
     pub values: u64,
     /// Those of the values that are about the primitive surface.
@@ -107,13 +133,28 @@ pub struct Tally {
     pub refusals: u64,
     pub none: u64,
     pub added: BTreeMap<u32, u64>,
-    pub otherwise: BTreeMap<(u32, Otherwise), Sample>,
-    pub differences: BTreeMap<Kinds, Sample>,
+    pub otherwise: BTreeMap<(u32, Otherwise), Sample<R>>,
+    pub differences: BTreeMap<Kinds, Sample<R>>,
 }
 
-impl Tally {
-    fn see(&mut self, index: u64, request: &Request) {
-        let judged = judge(request);
+impl<R> Default for Tally<R> {
+    fn default() -> Self {
+        Self {
+            cases: 0,
+            values: 0,
+            primitive: 0,
+            refusals: 0,
+            none: 0,
+            added: BTreeMap::new(),
+            otherwise: BTreeMap::new(),
+            differences: BTreeMap::new(),
+        }
+    }
+}
+
+impl<R: Asked> Tally<R> {
+    fn see(&mut self, index: u64, request: &R) {
+        let judged = request.judge();
         self.cases += 1;
         match (judged.added, &judged.original) {
             (Some(n), original) => {
@@ -122,8 +163,12 @@ impl Tally {
                 self.otherwise.entry(key).or_default().see(index, request);
             }
             (None, Answer::None) => self.none += 1,
-            (None, Answer::Found(_)) => self.found(request),
-            (None, Answer::Walked(walked)) if walked.refused().is_none() => self.found(request),
+            (None, Answer::Found(_) | Answer::Walked(_) | Answer::Reported(_))
+                if judged.original.refused().is_none() =>
+            {
+                self.values += 1;
+                self.primitive += u64::from(judged.primitive);
+            }
             (None, _) => self.refusals += 1,
         }
         if judged.differs() {
@@ -132,14 +177,7 @@ impl Tally {
         }
     }
 
-    fn found(&mut self, request: &Request) {
-        self.values += 1;
-        // A level has no surface.
-        let primitive = request.call != Call::GradeRange && request.description[KIND] == PRIMITIVE;
-        self.primitive += u64::from(primitive);
-    }
-
-    fn merge(mut self, other: Tally) -> Tally {
+    fn merge(mut self, other: Self) -> Self {
         self.cases += other.cases;
         self.values += other.values;
         self.primitive += other.primitive;
@@ -157,35 +195,50 @@ impl Tally {
         self
     }
 
+    /// How many requests the sides differ on.
+    pub fn different(&self) -> u64 {
+        self.differences.values().map(|sample| sample.count).sum()
+    }
+
+    /// The smallest request on which the sides differ in this way.
+    pub fn smallest_difference(&self, kinds: &Kinds) -> Option<R> {
+        self.differences.get(kinds)?.shrunk(|request| {
+            let judged = request.judge();
+            judged.differs() && judged.kinds() == *kinds
+        })
+    }
+}
+
+impl Tally<Request> {
     /// The smallest request on which the original does otherwise in this way.
     pub fn smallest_otherwise(&self, key: (u32, Otherwise)) -> Option<Request> {
         self.otherwise
             .get(&key)?
             .shrunk(|request| added::added(request) == Some(key.0) && otherwise(&original::answer(request)) == key.1)
     }
-
-    /// The smallest request on which the sides differ in this way.
-    pub fn smallest_difference(&self, kinds: &Kinds) -> Option<Request> {
-        self.differences.get(kinds)?.shrunk(|request| {
-            let judged = judge(request);
-            judged.differs() && judged.kinds() == *kinds
-        })
-    }
 }
 
-/// The systematic part of a call and `count` cases by chance, on all cores. How many there are does not change the tally.
-pub fn tally(call: Call, count: u64, seed: u64) -> Tally {
-    let fixed = cases::systematic(call);
+/// The systematic part of a call and `count` cases by chance.
+pub fn call(call: Call, count: u64, seed: u64) -> Tally<Request> {
+    tally(&cases::systematic(call), count, |index| cases::by_chance(call, seed, index))
+}
+
+/// The same of the layer report.
+pub fn layers(count: u64, seed: u64) -> Tally<LayerRequest> {
+    tally(&layer_cases::systematic(), count, |index| layer_chances::by_chance(seed, index))
+}
+
+/// Fixed requests and `count` by chance, on all cores. How many there are does not change the tally.
+fn tally<R: Asked + Send + Sync>(fixed: &[R], count: u64, by_chance: impl Fn(u64) -> R + Sync) -> Tally<R> {
     let threads = thread::available_parallelism().map_or(1, |n| n.get());
     let all = fixed.len() as u64 + count;
     let share = |first: usize| {
         let mut tally = Tally::default();
         for index in (first as u64..all).step_by(threads) {
-            let request = match fixed.get(index as usize) {
-                Some(request) => *request,
-                None => cases::by_chance(call, seed, index - fixed.len() as u64),
-            };
-            tally.see(index, &request);
+            match fixed.get(index as usize) {
+                Some(request) => tally.see(index, request),
+                None => tally.see(index, &by_chance(index - fixed.len() as u64)),
+            }
         }
         tally
     };

@@ -12,12 +12,12 @@ pub type Bounds = [i64; 6];
 const INSIDE: u8 = 1;
 const UNSETTLED: u8 = 3;
 
-fn spans(bounds: &Bounds) -> [i64; 3] {
+pub fn spans(bounds: &Bounds) -> [i64; 3] {
     [0, 1, 2].map(|i| bounds[3 + i] - bounds[i])
 }
 
 /// The tick cubes in a box: up to 2^63, one more than a signed number holds.
-fn volume(bounds: &Bounds) -> u64 {
+pub fn volume(bounds: &Bounds) -> u64 {
     spans(bounds).map(i64::unsigned_abs).iter().product()
 }
 

@@ -21,7 +21,7 @@ fn span(c: &mut Chance, period: i64) -> i64 {
 }
 
 /// A box in order: half of them cubes or nearly, so that spans tie.
-fn bounds(c: &mut Chance, request: &Request) -> [i64; 6] {
+pub fn bounds(c: &mut Chance, request: &Request) -> [i64; 6] {
     let d = &request.description;
     let period = d[PERIOD].clamp(1, TICKS);
     let cube = span(c, period);

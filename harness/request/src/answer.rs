@@ -1,6 +1,6 @@
 //! An answer, its text, and when two answers are the same.
 
-use crate::Walked;
+use crate::{Reported, Walked};
 use std::fmt;
 
 /// One value of an answer.
@@ -18,6 +18,8 @@ pub enum Answer {
     Found(Vec<Value>),
     /// What a walk leaves, refused or not.
     Walked(Walked),
+    /// What a layer report leaves, refused or not.
+    Reported(Reported),
     None,
     Refused(u32),
     /// The original panicked.
@@ -55,6 +57,7 @@ impl Answer {
         match (self, other) {
             (Answer::Found(a), Answer::Found(b)) => a.len() == b.len() && a.iter().zip(b).all(|(a, b)| a.same(b)),
             (Answer::Walked(a), Answer::Walked(b)) => a == b,
+            (Answer::Reported(a), Answer::Reported(b)) => a == b,
             (Answer::Refused(a), Answer::Refused(b)) => a == b,
             (Answer::None, Answer::None) => true,
             _ => false,
@@ -66,6 +69,7 @@ impl Answer {
         match self {
             Answer::Refused(n) => Some(*n),
             Answer::Walked(walked) => walked.refused(),
+            Answer::Reported(reported) => reported.refused(),
             _ => None,
         }
     }
@@ -76,7 +80,7 @@ impl Answer {
             return (2, number);
         }
         let case = match self {
-            Answer::Found(_) | Answer::Walked(_) => 0,
+            Answer::Found(_) | Answer::Walked(_) | Answer::Reported(_) => 0,
             Answer::None => 1,
             Answer::Refused(_) => 2,
             Answer::Panicked => 3,
@@ -109,6 +113,7 @@ impl fmt::Display for Answer {
                 Ok(())
             }
             Answer::Walked(walked) => write!(f, "{walked}"),
+            Answer::Reported(reported) => write!(f, "{reported}"),
             Answer::None => write!(f, "none"),
             Answer::Refused(n) => write!(f, "refused {n}"),
             Answer::Panicked => write!(f, "panicked"),

@@ -1,4 +1,4 @@
-//! The public calls by name, and what each takes beside its description.
+//! The public calls that take a description, by name, and what each takes beside it.
 
 /// What a call takes beside its description.
 #[derive(Clone, Copy, Debug, PartialEq, Eq)]
@@ -44,7 +44,7 @@ impl Shape {
 
 macro_rules! calls {
     ($($call:ident $name:literal $shape:ident,)*) => {
-        /// A public call.
+        /// A public call on a description.
         #[derive(Clone, Copy, Debug, PartialEq, Eq, PartialOrd, Ord, Hash)]
         pub enum Call {
             $($call,)*

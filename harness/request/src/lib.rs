@@ -1,18 +1,21 @@
 //! What both sides of the comparison speak: a request to one of the public calls, and its answer, each a line of text.
+//! A request is about a description, or, for a layer report, about a table.
 
 mod answer;
 mod call;
+mod layers;
 mod line;
 mod walked;
 
 pub use answer::{Answer, Value};
 pub use call::{Call, Shape};
+pub use layers::{LAYER, LayerRequest, Reported};
 pub use walked::{SLOT, Walked, unwritten};
 
 /// The entries of a description, in document 01's order.
 pub type Description = [i64; 18];
 
-/// A call and all that it takes. Entries that the call does not take are zero.
+/// A call on a description and all that it takes. Entries that the call does not take are zero.
 #[derive(Clone, Copy, Debug, PartialEq)]
 pub struct Request {
     pub call: Call,

@@ -5,7 +5,7 @@ use std::fmt;
 use std::str::FromStr;
 
 /// A whole number in decimal: a minus or none, then digits.
-fn whole(word: &str) -> Result<i64, String> {
+pub(crate) fn whole(word: &str) -> Result<i64, String> {
     let digits = word.strip_prefix('-').unwrap_or(word);
     if digits.is_empty() || !digits.bytes().all(|b| b.is_ascii_digit()) {
         return Err(format!("{word:?} is no whole number"));
@@ -26,12 +26,13 @@ fn piece(word: &str) -> Result<u32, String> {
     u32::try_from(whole(word)?).map_err(|_| format!("{word:?} does not fit a piece's 32 bits"))
 }
 
-/// The longest table that a line can ask for: more bytes than the cells of most walks fill.
+/// The longest table or report that a line can ask for: more bytes than the cells of most walks fill.
 const LONGEST: usize = 1 << 30;
 
-fn length(word: &str) -> Result<usize, String> {
+/// The length of what is lent, a table or a report.
+pub(crate) fn length(word: &str, lent: &str) -> Result<usize, String> {
     let fits = usize::try_from(whole(word)?).ok().filter(|length| *length <= LONGEST);
-    fits.ok_or_else(|| format!("{word:?} is no table's length, which is 0 to {LONGEST} bytes"))
+    fits.ok_or_else(|| format!("{word:?} is no {lent}'s length, which is 0 to {LONGEST} bytes"))
 }
 
 impl FromStr for Request {
@@ -63,7 +64,7 @@ impl FromStr for Request {
         }
         match rest {
             [word] => request.piece = piece(word)?,
-            [depth, table] => (request.depth, request.table) = (whole(depth)?, length(table)?),
+            [depth, table] => (request.depth, request.table) = (whole(depth)?, length(table, "table")?),
             _ => {}
         }
         Ok(request)

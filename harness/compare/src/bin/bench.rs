@@ -1,6 +1,7 @@
-//! The walk's time beside that of two passes, its speed beside the original's, what the guard of the float state costs,
-//! and the stack that a walk takes. Nothing here is a test.
+//! The walk's time beside that of two passes, its speed beside the original's, the layer report's time beside safe Rust's,
+//! what the guard of the float state costs, and the stack that a walk takes. Nothing here is a test.
 
+use compare::layer_race::{self, LayerRace};
 use compare::race::{Race, cases, race};
 use compare::{guard, stack};
 use std::process::ExitCode;
@@ -8,8 +9,9 @@ use std::time::Duration;
 
 const HELP: &str = "bench: for each of six boxes the time of a walk, which makes one pass, that of a walk in two
 passes, and their ratio, of which document 02 asks at most two thirds for a core of 100,000 cells or more, as the first
-two are; then cells a second in one pass, ours and the original's, and their ratio. Then the time of a box_state by the
-bindings, which set the float state and restore it, and by the library itself; then the stack of a walk of depth 24
+two are; then cells a second in one pass, ours and the original's, and their ratio. Then the time of a layer report, ours
+and that of safe Rust, and their ratio; then the time of a box_state by the bindings, which set the float state and
+restore it, and by the library itself; then the stack of a walk of depth 24
 
 The boxes: two cores, at a constant and at a linear level; a plate; a needle; an odd box, whose spans and period are no
 powers of two; and a single box, which is not halved and so is one cell.
@@ -18,7 +20,9 @@ Each side has its turn in each of five rounds, and its median time counts. Our w
 microsecond, so a turn makes it 2,000 times and divides; a turn makes every other walk once. Most of the original's time
 on the single box goes into compiling the description. The walk in two passes, to count the tree and to write it, is
 proved too, and kept for this alone. The original has no walk: a plain one over its box_state stands in, in one pass.
-All tables are compared before anything is timed.";
+The layer report is of every layer of the linear core. Beside it stands what a Rust program would have that links no
+library: it follows the chain to see that the table is sound, and again to add each cell to the layers that it crosses.
+All tables and both reports are compared before anything is timed.";
 
 fn a_second(cells: u32, time: Duration) -> f64 {
     f64::from(cells) / time.as_secs_f64()
@@ -52,6 +56,13 @@ fn line(name: &str, race: &Race) -> String {
     format!("{name}, {} cells: {}; {}", race.cells, passes(race), speeds(race))
 }
 
+fn layer_line(race: &LayerRace) -> String {
+    let [ours, rust] = [race.ours, race.rust].map(in_units);
+    let ratio = race.ours.as_secs_f64() / race.rust.as_secs_f64();
+    let LayerRace { cells, layers, .. } = race;
+    format!("layer report, linear, {cells} cells, {layers} layers: {ours}, safe Rust {rust}, ratio {ratio:.3}")
+}
+
 /// Prints a line, or why there is none; whether there was one.
 fn said(line: Result<String, String>, name: &str) -> bool {
     match &line {
@@ -66,6 +77,7 @@ fn bench() -> ExitCode {
     for case in cases() {
         all &= said(race(&case).map(|race| line(case.name, &race)), case.name);
     }
+    all &= said(layer_race::race().map(|race| layer_line(&race)), "layer report");
     let cost = guard::cost();
     let [guarded, plain] = [cost.guarded, cost.plain].map(|time| time.as_nanos());
     println!("box_state: {guarded} ns a call by the bindings, {plain} ns without their guard of the float state");

@@ -1,7 +1,8 @@
-//! Compares every answer of the proved library with the original's; about the primitive surface with document 02's.
+//! Compares every answer of the proved library with the original's; about the primitive surface, and of layer reports, with
+//! document 02's.
 
-use compare::{report, slices, tally};
-use request::Call;
+use compare::{lent_report, report, slices, tally};
+use request::{Call, LayerRequest};
 use std::process::ExitCode;
 
 const COUNT: u64 = 2000;
@@ -17,8 +18,13 @@ by value. Of a walk every byte of the table is compared, refused or not, with a 
 Half of the descriptions are of the network and half of the primitive surface, which the original does not know: there document 02's
 lines stand in its place.
 
+COUNT layer reports by chance, of tables that walks leave, that are made by hand or that are broken in one place; and a systematic
+part: chains, numbers of cells, states, depths, boxes and volumes of a table, runs and reports, each at its limits, and every pair of
+refusals. Every byte of the report and of the table is compared, refused or not, with a plain report from document 02's words.
+
 `added N` counts requests that document 01 refuses by N where the original has no such refusal; ours must be that refusal.
-The exit status is 1 where an answer differs. Where the original is not at hand only the lent slices are checked.";
+The exit status is 1 where an answer differs. Where the original is not at hand only the lent slices and the layer reports are
+compared.";
 
 fn number(argument: Option<String>, default: u64) -> Option<u64> {
     argument.map_or(Some(default), |word| word.parse().ok())
@@ -26,7 +32,8 @@ fn number(argument: Option<String>, default: u64) -> Option<u64> {
 
 /// Lends slices of right and wrong lengths to every call; the number of faults.
 fn check_slices(seed: u64) -> u64 {
-    let checked: Vec<_> = Call::ALL.iter().map(|call| slices::check(*call, seed)).collect();
+    let calls = Call::ALL.iter().map(|call| slices::check(*call, seed));
+    let checked: Vec<_> = calls.chain([lent_report::check(seed)]).collect();
     let made: u64 = checked.iter().map(|(made, _)| made).sum();
     let faults: Vec<_> = checked.into_iter().flat_map(|(_, faults)| faults).collect();
     println!("lent slices: {made} calls, {} faults", faults.len());
@@ -36,29 +43,32 @@ fn check_slices(seed: u64) -> u64 {
     faults.len() as u64
 }
 
-/// Compares every call; the numbers of cases and of differences.
+/// Compares every call, those on a description where the original is at hand; the numbers of cases and of differences.
 fn compare(count: u64, seed: u64) -> (u64, u64) {
     println!("{}", report::head());
     let mut tallies = Vec::new();
-    for &call in Call::ALL {
-        let tally = tally::tally(call, count, seed);
-        println!("{}", report::row(call, &tally));
-        tallies.push((call, tally));
+    for call in Call::ALL.iter().filter(|_| reference::AT_HAND) {
+        let tally = tally::call(*call, count, seed);
+        println!("{}", report::row(call.name(), &tally));
+        tallies.push((call.name(), tally));
     }
-    println!("\nWhat document 01 adds, by the smallest request found where the original does otherwise:");
-    for (call, tally) in &tallies {
-        report::otherwise(*call, tally).iter().for_each(|text| println!("  {text}"));
+    let layers = tally::layers(count, seed);
+    println!("{}", report::row(LayerRequest::NAME, &layers));
+    if reference::AT_HAND {
+        println!("\nWhat document 01 adds, by the smallest request found where the original does otherwise:");
     }
-    let listed = tallies.iter().flat_map(|(call, tally)| report::differences(*call, tally));
-    let listed: Vec<_> = listed.collect();
+    for (name, tally) in &tallies {
+        report::otherwise(name, tally).iter().for_each(|text| println!("  {text}"));
+    }
+    let listed = tallies.iter().flat_map(|(name, tally)| report::differences(name, tally));
+    let listed: Vec<_> = listed.chain(report::differences(LayerRequest::NAME, &layers)).collect();
     if !listed.is_empty() {
         println!("\nUnlisted differences:");
     }
     listed.iter().for_each(|text| println!("  {text}"));
     println!();
-    let cases = tallies.iter().map(|(_, tally)| tally.cases).sum();
-    let seen = tallies.iter().flat_map(|(_, tally)| tally.differences.values());
-    (cases, seen.map(|sample| sample.count).sum())
+    let calls = tallies.iter().map(|(_, tally)| (tally.cases, tally.different()));
+    calls.fold((layers.cases, layers.different()), |(cases, different), call| (cases + call.0, different + call.1))
 }
 
 fn main() -> ExitCode {
@@ -73,12 +83,10 @@ fn main() -> ExitCode {
         return ExitCode::from(2);
     };
     let faults = check_slices(seed);
-    let (cases, differences) = if reference::AT_HAND {
-        compare(count, seed)
-    } else {
-        println!("the comparison is skipped: {}", reference::MISSING);
-        (0, 0)
-    };
+    if !reference::AT_HAND {
+        println!("the comparison with the original is skipped: {}", reference::MISSING);
+    }
+    let (cases, differences) = compare(count, seed);
     println!("differ: {cases} cases, {} differences", differences + faults);
     ExitCode::from(u8::from(differences + faults > 0))
 }

@@ -1,30 +1,33 @@
-//! Writes a fixed list of the original's answers, and of document 02's, to standard output: `calls`, which is the one that is meant
-//! without a word, or `walks`.
+//! Writes a fixed list to standard output: the original's answers, and document 02's, by the word `calls`, which is meant
+//! without a word, or `walks`; layer reports from document 02's words by `layers`.
 
 use std::env;
 use std::io::{self, Write};
 use std::process::ExitCode;
 
-fn list(words: &[String]) -> Option<Vec<u8>> {
-    let words: Vec<&str> = words.iter().map(String::as_str).collect();
-    match words[..] {
-        [] | ["calls"] => Some(compare::list::list()),
-        ["walks"] => Some(compare::walk_list::list()),
+type List = fn() -> Vec<u8>;
+
+/// The list that the words name, and whether it has answers of the original.
+fn named(words: &[&str]) -> Option<(List, bool)> {
+    match words {
+        [] | ["calls"] => Some((compare::list::list, true)),
+        ["walks"] => Some((compare::walk_list::list, true)),
+        ["layers"] => Some((compare::layer_list::list, false)),
         _ => None,
     }
 }
 
 fn main() -> ExitCode {
-    if !reference::AT_HAND {
+    let words: Vec<String> = env::args().skip(1).collect();
+    let Some((list, originals)) = named(&words.iter().map(String::as_str).collect::<Vec<_>>()) else {
+        eprintln!("list: the lists are `calls`, `walks` and `layers`");
+        return ExitCode::FAILURE;
+    };
+    if originals && !reference::AT_HAND {
         eprintln!("list: the original is not at hand: {}", reference::MISSING);
         return ExitCode::from(2);
     }
-    let words: Vec<String> = env::args().skip(1).collect();
-    let Some(list) = list(&words) else {
-        eprintln!("list: the lists are `calls` and `walks`");
-        return ExitCode::FAILURE;
-    };
-    match io::stdout().write_all(&list) {
+    match io::stdout().write_all(&list()) {
         Ok(()) => ExitCode::SUCCESS,
         Err(why) => {
             eprintln!("list: {why}");
