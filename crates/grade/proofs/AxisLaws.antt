@@ -15,8 +15,8 @@ use Rattle.grade.specs.declared.Grade.{Grade}
 use Rattle.grade.specs.declared.Linear.{Linear}
 use Rattle.grade.specs.declared.GradeDef.{GradeDef}
 use Rattle.grade.specs.declared.LevelKind.{LevelKind}
-use Rattle.grade.specs.declared.Axis.{Axis}
-use Rattle.grade.specs.declared.Axis.the-variants.{One}
+use Rattle.grade.specs.declared.AnchorAxis.{AnchorAxis}
+use Rattle.grade.specs.declared.AnchorAxis.the-variants.{One}
 use Rattle.grade.specs.declared.Planes.{Planes}
 use Rattle.limits.specs.Ticks.{at}
 use Rattle.grade.specs.Grade.{eqZ, minus, dot}
@@ -29,9 +29,9 @@ use Rattle.limits.proofs.TickLaws.{both}
 use Rattle.grade.proofs.Accepted.{by-kind}
 
 -- ---- it is below 3
-abbrev Below : Axis → Type 0
+abbrev Below : AnchorAxis → Type 0
 Below (One i) = i < 3
-Below Axis.None = Unit {0}
+Below AnchorAxis.None = Unit {0}
 
 of-below : (x y z : Bool) → Below (axisOf x y z)
 of-below true y z = lit< tt
@@ -50,7 +50,7 @@ below g = go (g .kind)
     go LevelKind.Constant = tt
     go LevelKind.Linear = of-below (only (d 0) (d 1) (d 2)) (only (d 1) (d 2) (d 0)) (only (d 2) (d 0) (d 1))
 
-pub axis-one : (g : GradeDef) {a : Axis} {i : ℕ} → a ≡ defAxis g → a ≡ One i → i < 3
+pub axis-one : (g : GradeDef) {a : AnchorAxis} {i : ℕ} → a ≡ defAxis g → a ≡ One i → i < 3
 axis-one g p q = subst Below (sym p ∙ q) (below g)
 
 abbrev pub PlanesBelow : Planes → Type 0
@@ -61,9 +61,9 @@ pub planes-below : (g : GradeDef) → PlanesBelow (planes g)
 unfolding planes
 planes-below g = go (defAxis g) (below g)
   where
-    go : (a : Axis) → Below a → PlanesBelow (planesOn a (g .linear))
+    go : (a : AnchorAxis) → Below a → PlanesBelow (planesOn a (g .linear))
     go (One i) h = h
-    go Axis.None h = tt
+    go AnchorAxis.None h = tt
 
 pub within-at : {n : ℕ} {v : List ℤ} → Within3 n v → (i : ℕ) → i < 3 → Within n (at v i)
 within-at {n} {v} h = three (λ i. Within n (at v i)) (h .x) (h .y) (h .z)

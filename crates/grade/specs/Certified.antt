@@ -6,8 +6,8 @@ use lib.Signed.{ltZ, leZ}
 use Rattle.grade.specs.declared.Linear.{Linear}
 use Rattle.grade.specs.declared.GradeDef.{GradeDef}
 use Rattle.grade.specs.declared.LevelKind.{LevelKind}
-use Rattle.grade.specs.declared.Axis.{Axis}
-use Rattle.grade.specs.declared.Axis.the-variants.{One}
+use Rattle.grade.specs.declared.AnchorAxis.{AnchorAxis}
+use Rattle.grade.specs.declared.AnchorAxis.the-variants.{One}
 use Rattle.grade.specs.declared.Planes.{Planes}
 use Rattle.grade.specs.declared.Planes.the-variants.{Found}
 use Rattle.grade.specs.declared.Slope.{Slope}
@@ -20,29 +20,29 @@ abbrev pub only : ℤ → ℤ → ℤ → Bool
 only a b c = not (eqZ a (pos 0)) && eqZ b (pos 0) && eqZ c (pos 0)
 
 -- the axis on which alone the anchors differ
-abbrev pub axisOf : Bool → Bool → Bool → Axis
-axisOf x y z = cond x (One 0) (cond y (One 1) (cond z (One 2) Axis.None))
+abbrev pub axisOf : Bool → Bool → Bool → AnchorAxis
+axisOf x y z = cond x (One 0) (cond y (One 1) (cond z (One 2) AnchorAxis.None))
 
-unfoldable pub axis : Linear → Axis
+unfoldable pub axis : Linear → AnchorAxis
 axis g =
     let d = at (g .direction) in
     axisOf (only (d 0) (d 1) (d 2)) (only (d 1) (d 2) (d 0)) (only (d 2) (d 0) (d 1))
 
-abbrev pub isOne : Axis → Bool
+abbrev pub isOne : AnchorAxis → Bool
 isOne (One i) = true
-isOne Axis.None = false
+isOne AnchorAxis.None = false
 
-abbrev pub axisBy : LevelKind → Linear → Axis
-axisBy LevelKind.Constant g = Axis.None
+abbrev pub axisBy : LevelKind → Linear → AnchorAxis
+axisBy LevelKind.Constant g = AnchorAxis.None
 axisBy LevelKind.Linear g = axis g
 
-unfoldable pub defAxis : GradeDef → Axis
+unfoldable pub defAxis : GradeDef → AnchorAxis
 defAxis g = axisBy (g .kind) (g .linear)
 
 -- "`planes` (the axis, then the positions of `from` and `to` in ticks, or none)"
-abbrev pub planesOn : Axis → Linear → Planes
+abbrev pub planesOn : AnchorAxis → Linear → Planes
 planesOn (One i) g = Found i (at (g .from) i) (at (g .from) i +ℤ at (g .direction) i)
-planesOn Axis.None g = Planes.None
+planesOn AnchorAxis.None g = Planes.None
 
 unfoldable pub planes : GradeDef → Planes
 planes g = planesOn (defAxis g) (g .linear)

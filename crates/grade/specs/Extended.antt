@@ -12,8 +12,8 @@ use Rattle.grade.specs.declared.Piece.{Piece}
 use Rattle.grade.specs.declared.Piece.the-variants.{Start, Ramp, End}
 use Rattle.grade.specs.declared.PieceAnswer.{PieceAnswer}
 use Rattle.grade.specs.declared.PieceAnswer.the-variants.{Found, None}
-use Rattle.grade.specs.declared.Axis.{Axis}
-use Rattle.grade.specs.declared.Axis.the-variants.{One}
+use Rattle.grade.specs.declared.AnchorAxis.{AnchorAxis}
+use Rattle.grade.specs.declared.AnchorAxis.the-variants.{One}
 use Rattle.grade.specs.declared.Planes.{Planes}
 use Rattle.grade.specs.Holds.{OfTicks}
 use Rattle.limits.specs.Ticks.{at}
@@ -28,9 +28,9 @@ Says (Found End) t = oneF ≤F t
 Says None t = Unit {0}
 
 -- ---- the positions of `from` and `to` on an axis
-abbrev pub positions : Axis → Grade → Planes
+abbrev pub positions : AnchorAxis → Grade → Planes
 positions (One i) g = Planes.Found i (at (g .from) i) (at (g .to) i)
-positions Axis.None g = Planes.None
+positions AnchorAxis.None g = Planes.None
 
 -- ---- the affine extension of the level, and its slope along an axis in level counts per tick
 unfoldable pub affineLevel : Grade → Point → Fraction

@@ -3,7 +3,7 @@ ghost use mathlib.Core.Path.{_≡_};
 ghost use Rattle.exact.specs.Within.{Within};
 ghost use Rattle.grade.specs.Certified.{only, axisOf, isOne, axis, defAxis, planes, size, distance, rise, slopeBound, ending, linearCertification, certification};
 ghost use Rattle.grade.specs.Fits.{LinearFits, DefFits};
-use crate::Axis;
+use crate::AnchorAxis;
 use crate::GradeDef;
 use crate::LevelKind;
 use crate::Linear;
@@ -34,28 +34,28 @@ fn ending(x: i64) -> bool
     (Linear::ENDS[0] <= x) & (x <= Linear::ENDS[1])
 }
 
-fn axis_of(x: bool, y: bool, z: bool) -> Axis
+fn axis_of(x: bool, y: bool, z: bool) -> AnchorAxis
     ensures { λ r. ⌜ r ≡ axisOf x y z ⌝ }
 {
     if x {
-        return Axis::One(0);
+        return AnchorAxis::One(0);
     }
     if y {
-        return Axis::One(1);
+        return AnchorAxis::One(1);
     }
     if z {
-        return Axis::One(2);
+        return AnchorAxis::One(2);
     }
-    Axis::None
+    AnchorAxis::None
 }
 
-impl Axis {
+impl AnchorAxis {
     pub fn is_one(self) -> bool
         ensures { λ r. ⌜ r ≡ isOne self ⌝ }
     {
         match self {
-            Axis::One(_) => true,
-            Axis::None => false,
+            AnchorAxis::One(_) => true,
+            AnchorAxis::None => false,
         }
     }
 }
@@ -64,7 +64,7 @@ impl Linear {
     // The least and the greatest end of a certified linear level.
     pub const ENDS: [i64; 2] = [-256, 256];
 
-    pub fn axis(self) -> Axis
+    pub fn axis(self) -> AnchorAxis
         ensures { λ r. ⌜ r ≡ axis self ⌝ }
     {
         let d = self.direction;
@@ -104,13 +104,13 @@ impl Linear {
 }
 
 impl GradeDef {
-    pub fn axis(self) -> Axis
+    pub fn axis(self) -> AnchorAxis
         ensures { λ r. ⌜ r ≡ defAxis self ⌝ }
     {
         let kind = self.kind;
         let linear = self.linear;
         match kind {
-            LevelKind::Constant => Axis::None,
+            LevelKind::Constant => AnchorAxis::None,
             LevelKind::Linear => linear.axis(),
         }
     }
@@ -122,7 +122,7 @@ impl GradeDef {
         let linear = self.linear;
         let from = linear.from;
         let d = linear.direction;
-        let Axis::One(i) = self.axis() else {
+        let AnchorAxis::One(i) = self.axis() else {
             return Planes::None;
         };
         Planes::Found {

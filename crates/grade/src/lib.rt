@@ -62,7 +62,7 @@ pub enum PieceAnswer {
 }
 
 // The one axis along which the anchors differ.
-pub enum Axis {
+pub enum AnchorAxis {
     One(usize),
     None,
 }

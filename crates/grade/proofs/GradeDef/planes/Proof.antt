@@ -8,7 +8,7 @@ use mir.Val.{Fits}
 use Rattle.exact.proofs.Signed.{is, fits, bit, add}
 use Rattle.grade.specs.Certified.{defAxis, planesOn, planes}
 use Rattle.grade.specs.declared.Planes.the-variants.{Found}
-use Rattle.grade.specs.declared.Axis.{Axis}
+use Rattle.grade.specs.declared.AnchorAxis.{AnchorAxis}
 use Rattle.grade.specs.declared.GradeDef.{GradeDef}
 use Rattle.grade.proofs.AxisLaws.{axis-one, within-at}
 use Rattle.grade.proofs.GradeDef.planes.Statement.{statement}
@@ -17,7 +17,7 @@ use Rattle.grade.proofs.GradeDef.planes.Tie as tie
 eight : {i : ℕ} → i < 3 → Fits w64 (i * 8)
 eight {i} h = record { fits = omega arith }
 
-found : (g : GradeDef) {a : Axis} → defAxis g ≡ a → planesOn a (g .linear) ≡ planes g
+found : (g : GradeDef) {a : AnchorAxis} → defAxis g ≡ a → planesOn a (g .linear) ≡ planes g
 unfolding planes
 found g e = sym (ap (λ a. planesOn a (g .linear)) e)
 
