@@ -90,11 +90,20 @@ linear-apart g l t = anchors-apart (g .from) (g .to) (go (isLinear g) (same (g .
     go true c s t = t
     go false c s t = absurd s
 
--- a fact of the compiled grade, from the two kinds that it may have
-pub by-kind : (g : Grade) (P : GradeDef → Type 0) → (T (isLinear g) → P (record { kind = LevelKind.Linear; linear = numbers g })) → (T (not (isLinear g && not (eqZ (g .start) (g .end)))) → P (constantDef (g .start))) → P (compiled g)
+-- a fact of the compiled grade, from the two that it may be
+pub by-ends : (g : Grade) (P : GradeDef → Type 0)
+    → (T (isLinear g && not (eqZ (g .start) (g .end))) → P (record { kind = LevelKind.Linear; linear = numbers g }))
+    → (T (not (isLinear g && not (eqZ (g .start) (g .end)))) → P (constantDef (g .start)))
+    → P (compiled g)
 unfolding compiled
-by-kind g P linear flat = choose (isLinear g && not (eqZ (g .start) (g .end))) (record { kind = LevelKind.Linear; linear = numbers g }) (constantDef (g .start)) P
-    (λ u. linear (both (isLinear g) (not (eqZ (g .start) (g .end))) u .0)) flat
+by-ends g = choose (isLinear g && not (eqZ (g .start) (g .end))) (record { kind = LevelKind.Linear; linear = numbers g }) (constantDef (g .start))
+
+-- the same where the ends are not asked
+pub by-kind : (g : Grade) (P : GradeDef → Type 0)
+    → (T (isLinear g) → P (record { kind = LevelKind.Linear; linear = numbers g }))
+    → (T (not (isLinear g && not (eqZ (g .start) (g .end)))) → P (constantDef (g .start)))
+    → P (compiled g)
+by-kind g P linear = by-ends g P (λ u. linear (both (isLinear g) (not (eqZ (g .start) (g .end))) u .0))
 
 -- ---- so the compiled grade fits
 zero3 : (n : ℕ) → Within3 n (pos 0 ∷ pos 0 ∷ pos 0 ∷ [])

@@ -58,7 +58,7 @@ distance-pos g t = go (only (d 0) (d 1) (d 2)) (only (d 1) (d 2) (d 0)) (only (d
     go false false true f h k u = k tt
     go false false false f h k u = absurd u
 
-certified-one : (g : Linear) → linearCertification g ≡ 0 → T (isOne (axis g))
+pub certified-one : (g : Linear) → linearCertification g ≡ 0 → T (isOne (axis g))
 unfolding linearCertification
 certified-one g e = kept (isOne (axis g)) (none-first (not (isOne (axis g))) 3 (refused (not (ending (g .start) && ending (g .end))) 5 orElse refused (ltZ (distance g) (pos 10 *ℤ rise g)) 5) e .0)
 

@@ -14,9 +14,10 @@ pub mod SlopeLaws
 pub mod AlikeLaws
 pub mod NarrowerLaws
 pub mod TickPieceLaws
--- certification, planes
+-- certification, planes, the grade axis
 pub mod AxisLaws
 pub mod CertifiedLaws
+pub mod GradeAxisLaws
 -- document 01's marked values
 pub mod MarkedValues
 mod Sizes

@@ -85,11 +85,13 @@ passed d e =
     record { period = tick-within (d .period) t; above = not-most (d .period) b; level = record { passed = l }; apart = p; fits = compiled-fits (d .level) (record { passed = l }) p }
 
 -- ---- and what no refusal leaves
+pub certified : (d : Description) → refusal d ≡ 0 → certification (compiled (d .level)) ≡ 0
+certified d e = neither (certification (compiled (d .level))) (refused (not (partFrame (d .frame))) 3) (neither (early d) (late d) (split d ∙ e) .1) .0
+
 pub accepted : (d : Description) → refusal d ≡ 0 → Passed d × SlopeFits (slopeBound (compiled (d .level)))
 accepted d e =
-    let (a, b) = neither (early d) (late d) (split d ∙ e) in
-    let p = passed d a in
-    (p, slope-fits (compiled (d .level)) (p .fits) (neither (certification (compiled (d .level))) (refused (not (partFrame (d .frame))) 3) b .0))
+    let p = passed d (neither (early d) (late d) (split d ∙ e) .0) in
+    (p, slope-fits (compiled (d .level)) (p .fits) (certified d e))
 
 -- ---- the parts of the leaf's fractions
 pub constant-within : (g : GradeDef) → DefFits g → Within 4096 (constantLevel g)
