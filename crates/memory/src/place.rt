@@ -5,14 +5,12 @@ ghost use Rattle.memory.specs.Memory.{Slots};
 use crate::Places;
 use tree::Axis;
 
+// Of the half of a side: among the 32 of the other depth, twice as far on.
 fn half(place: usize, side: usize) -> usize
     requires { ⌜ side ≤ 1 ⌝ }
 {
-    let index = (2 * (place % 32) + side) % 32;
-    if place < 32 {
-        return 32 + index;
-    }
-    index
+    let other = 32 - place % 64 / 32 * 32;
+    other + 2 * (place % 16) + side
 }
 
 impl Places {
