@@ -45,10 +45,10 @@ static int ask(void) {
         printf("state %" PRId64 ", residual from %.17g to %.17g\n", state, ends[0], ends[1]);
     }
 
-    /* The whole millimetre cube in ticks, halved once at most. */
+    /* The whole millimetre cube in ticks, halved once at most: across x, for a constant level has no grade axis. */
     const int64_t bounds[6] = {0, 0, 0, 1024, 1024, 1024};
     uint8_t table[64 * GYROID_SLOT];
-    status = gyroid_walk(description, GYROID_DESCRIPTION, bounds, 6, 1, table, sizeof table);
+    status = gyroid_walk(description, GYROID_DESCRIPTION, bounds, 6, 1, GYROID_TIES_TO_GRADE_AXIS, table, sizeof table);
     if (status != GYROID_FOUND) {
         return refused(status);
     }

@@ -27,7 +27,7 @@
  *   alignment  The library needs none: its code reads and writes entries at any address, and is tested at odd ones.
  *              The proofs speak of entries where C has them, int64_t and double at multiples of 8, and C itself asks
  *              for that. A table is bytes, and so is a report.
- *   stack      A walk of depth 24 takes 44,224 bytes of stack, measured; no heap.
+ *   stack      A walk of depth 24 takes 46,272 bytes of stack, measured; no heap.
  *
  * Every call answers a status:
  *
@@ -83,7 +83,7 @@ enum { GYROID_FOUND = 0, GYROID_NONE = 100, GYROID_LENGTH = 101 };
 /* The refusals, a name for each of the conditions of documents 01 and 02. Two conditions share the number 2 and three
  * the number 3, and the number does not tell which it was. The first that holds wins, in the documents' order. */
 enum {
-    GYROID_REFUSED_ENTRY = 1,          /* an entry outside its limits or kinds */
+    GYROID_REFUSED_ENTRY = 1,          /* an entry outside its limits or kinds, a piece or a tie rule that is none */
     GYROID_REFUSED_PERIOD = 2,         /* a period not above 0 */
     GYROID_REFUSED_ANCHORS = 2,        /* a linear level with from = to */
     GYROID_REFUSED_SHEET = 3,          /* a sheet */
@@ -107,6 +107,7 @@ enum {
 enum { GYROID_DESCRIPTION = 18 };
 enum { GYROID_NETWORK = 0, GYROID_SHEET = 1, GYROID_PRIMITIVE = 2 };
 enum { GYROID_START = 0, GYROID_RAMP = 1, GYROID_END = 2 };
+enum { GYROID_TIES_TO_GRADE_AXIS = 0, GYROID_TIES_TO_LOWEST_AXIS = 1 };
 enum { GYROID_INSIDE = 1, GYROID_OUTSIDE = 2, GYROID_UNSETTLED = 3 };
 enum { GYROID_SLOT = 32 };
 enum { GYROID_LAYER = 24 };
@@ -216,8 +217,18 @@ uint32_t gyroid_fast(const int64_t *description, size_t description_length, cons
                      double *out, size_t out_length);
 
 /* Marks `bounds` (6 entries) cell by cell: a box that is unsettled is halved across its longest side, `depth` (0 to
- * 24) times at most and down to one tick. The cells stand in `table`, which is any number of bytes: slots of 32,
- * little endian.
+ * 24) times at most and down to one tick. Where longest sides tie, `rule` says across which of them:
+ *
+ *   GYROID_TIES_TO_GRADE_AXIS    the default: the grade axis if it is among them, otherwise the lowest of them. The
+ *                                grade axis is the one on which `from` and `to` differ, of a linear level with unequal
+ *                                ends; equal ends have none, nor has a constant level. So a core that is graded along z
+ *                                is cut across z before x, and not left with tall cells that straddle its ramp
+ *   GYROID_TIES_TO_LOWEST_AXIS   the lowest of them, x before y before z, whatever the level: for a preview that relies
+ *                                on this cut
+ *
+ * Any other rule is refused by 1. Only the lengths are tested before it, so it is 1 whatever else is refused.
+ *
+ * The cells stand in `table`, which is any number of bytes: slots of 32, little endian.
  *
  *   slot 0   0 the first cell's slot (u32), 4 cells (u32), 8 boxes evaluated (u32), 12 the tick cubes of the cells
  *            inside (u64), 20 those of the rest of the box (u64), 28 zeros
@@ -231,7 +242,7 @@ uint32_t gyroid_fast(const int64_t *description, size_t description_length, cons
  * are written as the walk comes to them, and at the first without a slot it stops: 13 comes after as many cells as the
  * table has slots, however many there are. GYROID_LENGTH speaks of `bounds` alone. Never none. */
 uint32_t gyroid_walk(const int64_t *description, size_t description_length, const int64_t *bounds, size_t bounds_length,
-                     int64_t depth, uint8_t *table, size_t table_length);
+                     int64_t depth, uint32_t rule, uint8_t *table, size_t table_length);
 
 /* The areas of the cells of a `table` in each tick layer from `low` to `high` - 1. Layer z lies between z and z + 1; a
  * cell crosses the layers from its low in z to one before its high, each with all of its x span by its y span. The

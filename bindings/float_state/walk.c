@@ -11,13 +11,14 @@
 #include <stdio.h>
 #include <string.h>
 
-/* `10240 1 0 0 0 0 0 20480 -256 256 1280 8960 0 1440 9280 320 0`, as the program `cells` reads it. */
+/* `10240 1 0 0 0 0 0 20480 -256 256 1280 8960 0 1440 9280 320 0`, as the program `cells` reads and walks it. */
 static const int64_t description[GYROID_DESCRIPTION] = {10240, 0, 1, 0, 0, 0, 0, 0, 20480, -256, 256, 1};
 static const int64_t bounds[6] = {1280, 8960, 0, 1440, 9280, 320};
+static const uint32_t rule = GYROID_TIES_TO_LOWEST_AXIS;
 
 /* Whether the table is written. */
 static int plain(uint8_t *table, size_t length) {
-    return gyroid_walk(description, GYROID_DESCRIPTION, bounds, 6, 0, table, length) == GYROID_FOUND;
+    return gyroid_walk(description, GYROID_DESCRIPTION, bounds, 6, 0, rule, table, length) == GYROID_FOUND;
 }
 
 /* The same, in the default state; and whether that was set and the state left as it was. */

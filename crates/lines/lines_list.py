@@ -17,6 +17,8 @@ from pathlib import Path
 ROOT = Path(__file__).resolve().parents[2]
 ASK = "cargo run -q --release --offline --manifest-path harness/Cargo.toml --bin ask -- --reference".split()
 FRAME = [1, 0, 0, 0, 0, 0, 0]
+# The tie rule that `cells` names.
+LOWEST_AXIS = 1
 LISTING = b"10240 0 0 0 0 0 0 0 2048 0 0 0 0 1024 1024 1024 1\n"
 
 
@@ -25,9 +27,9 @@ def line(period=10240, kind=0, anchors=(0, 0, 0, 0, 0, 0), start=2048, end=0, bo
 
 
 def request(text):
-    """The request to the harness that a line is: the network and the part frame are set, and the table has 64 KiB."""
+    """The request to the harness that a line is: the network, the part frame and the tie rule are set; the table has 64 KiB."""
     n = [int(word) for word in text.split()]
-    entries = [n[0], 0, *n[1:10], *FRAME, *n[10:], 65536]
+    entries = [n[0], 0, *n[1:10], *FRAME, *n[10:], LOWEST_AXIS, 65536]
     return "walk " + " ".join(map(str, entries)) + "\n"
 
 

@@ -4,6 +4,7 @@ use crate::lend::{self, always, on_description, on_slice};
 use crate::raw;
 use crate::{
     Bounds, Derivatives, Description, Interval, Jet, LAYER, Layers, Piece, Planes, Range, Refusal, State, Table,
+    TieRule,
 };
 
 /// A box, or a point in intervals: x, y, z.
@@ -311,17 +312,20 @@ pub fn fast(description: &Description, point: [f64; 3]) -> Result<f64, Refusal> 
 /// Marks a box of whole ticks cell by cell, halving what is unsettled `depth` times at most (0 to 24), and leaves the
 /// cells in the lent table: [`Table`] reads it. One cell takes 32 bytes and so does the head.
 ///
+/// A box is halved across its longest side. Where longest sides tie, the rule says which of them it is: by default the
+/// grade axis, where the core has one and it is among them, and otherwise the lowest. [`TieRule`] has the other rule.
+///
 /// Every byte of the table is written. Refused by 13, for want of room, every byte is zero; refused by another number
 /// the table is as it was. 13 comes at the first cell without a slot, so a table that is far too small costs little.
 ///
 /// ```
-/// use gyroid_cells::{Bounds, Description, State, walk};
+/// use gyroid_cells::{Bounds, Description, State, TieRule, walk};
 ///
 /// // A network of period 10 mm at the level 2; a millimetre cube, halved once at most.
 /// let core = Description::constant(10240, 2048);
 /// let cube = Bounds { low: [0; 3], high: [1024; 3] };
 /// let mut bytes = [0; 3 * 32];
-/// let table = walk(&core, cube, 1, &mut bytes)?;
+/// let table = walk(&core, cube, 1, TieRule::default(), &mut bytes)?;
 ///
 /// assert_eq!(table.head().solid, 536870912);
 /// let states: Vec<State> = table.cells().map(|cell| cell.state).collect();
@@ -332,9 +336,10 @@ pub fn walk<'a>(
     description: &Description,
     bounds: Bounds,
     depth: i64,
+    rule: TieRule,
     table: &'a mut [u8],
 ) -> Result<Table<'a>, Refusal> {
-    lend::walk(description, &corners_of(bounds), depth, table)?;
+    lend::walk(description, &corners_of(bounds), depth, rule as u32, table)?;
     Ok(Table::filled(table))
 }
 
@@ -350,11 +355,11 @@ pub fn walk<'a>(
 /// counts in full.
 ///
 /// ```
-/// use gyroid_cells::{Bounds, Description, layers, walk};
+/// use gyroid_cells::{Bounds, Description, TieRule, layers, walk};
 ///
 /// let core = Description::constant(10240, 2048);
 /// let mut bytes = [0; 3 * 32];
-/// walk(&core, Bounds { low: [0; 3], high: [1024; 3] }, 1, &mut bytes)?;
+/// walk(&core, Bounds { low: [0; 3], high: [1024; 3] }, 1, TieRule::default(), &mut bytes)?;
 ///
 /// // The highest layer of the cube, half of which is inside, and the one above it.
 /// let mut report = [0; 2 * 24];

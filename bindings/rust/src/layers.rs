@@ -5,11 +5,11 @@ use core::slice::ChunksExact;
 /// The bytes of a layer: a report of n layers wants n times as many.
 ///
 /// ```
-/// use gyroid_cells::{Bounds, Description, LAYER, walk};
+/// use gyroid_cells::{Bounds, Description, LAYER, TieRule, walk};
 ///
 /// let part = Bounds { low: [0; 3], high: [1024; 3] };
 /// let (mut bytes, mut report) = ([0; 96], [0; 1024 * LAYER]);
-/// let table = walk(&Description::constant(10240, 2048), part, 1, &mut bytes)?;
+/// let table = walk(&Description::constant(10240, 2048), part, 1, TieRule::default(), &mut bytes)?;
 /// assert_eq!(table.layers(0, 1024, &mut report)?.len(), 1024);
 /// # Ok::<(), gyroid_cells::Refusal>(())
 /// ```
@@ -18,11 +18,11 @@ pub const LAYER: usize = 24;
 /// The tick squares of one layer that lie in cells of each state.
 ///
 /// ```
-/// use gyroid_cells::{Bounds, Description, Layer, walk};
+/// use gyroid_cells::{Bounds, Description, Layer, TieRule, walk};
 ///
 /// let part = Bounds { low: [0; 3], high: [1024; 3] };
 /// let (mut bytes, mut report) = ([0; 96], [0; 24]);
-/// let table = walk(&Description::constant(10240, 2048), part, 1, &mut bytes)?;
+/// let table = walk(&Description::constant(10240, 2048), part, 1, TieRule::default(), &mut bytes)?;
 /// let lowest = table.layers(0, 1, &mut report)?.next();
 /// assert_eq!(lowest, Some(Layer { z: 0, inside: 524288, outside: 0, unsettled: 524288 }));
 /// # Ok::<(), gyroid_cells::Refusal>(())
@@ -55,11 +55,11 @@ impl Layer {
 /// The layers of a report, the lowest first.
 ///
 /// ```
-/// use gyroid_cells::{Bounds, Description, Layers, walk};
+/// use gyroid_cells::{Bounds, Description, Layers, TieRule, walk};
 ///
 /// let part = Bounds { low: [0; 3], high: [1024; 3] };
 /// let (mut bytes, mut report) = ([0; 96], [0; 1024 * 24]);
-/// let table = walk(&Description::constant(10240, 2048), part, 1, &mut bytes)?;
+/// let table = walk(&Description::constant(10240, 2048), part, 1, TieRule::default(), &mut bytes)?;
 /// let layers: Layers = table.layers(0, 1024, &mut report)?;
 /// let solid: u64 = layers.map(|layer| layer.inside).sum();
 /// assert_eq!(solid, table.head().solid);

@@ -60,12 +60,18 @@ pub(crate) fn derivatives(description: &Description, world: &[f64; 6], piece: u3
     read(status, out)
 }
 
-pub(crate) fn walk(description: &Description, bounds: &[i64; 6], depth: i64, table: &mut [u8]) -> Result<(), Refusal> {
+pub(crate) fn walk(
+    description: &Description,
+    bounds: &[i64; 6],
+    depth: i64,
+    rule: u32,
+    table: &mut [u8],
+) -> Result<(), Refusal> {
     let d = description.entries();
     let length = table.len();
     // As above; the table is the caller's, and lent to this call alone.
     let status = in_default(|| unsafe {
-        raw::gyroid_walk(d.as_ptr(), d.len(), bounds.as_ptr(), bounds.len(), depth, table.as_mut_ptr(), length)
+        raw::gyroid_walk(d.as_ptr(), d.len(), bounds.as_ptr(), bounds.len(), depth, rule, table.as_mut_ptr(), length)
     });
     assert!(found(status)?, "a walk always finds its cells");
     Ok(())

@@ -1,10 +1,11 @@
 //! The evaluation behind the marks of graded gyroid cells, proved in Rattle, for Rust programs.
 //!
-//! A core is a [`Description`] in whole ticks (1/1024 mm) and level counts (1/1024), of one [`Surface`] or another. Each
-//! call takes a description and compiles it; nothing is kept between calls, nothing is allocated, and every call ends.
-//! What a call cannot work on it refuses by a number: [`Refusal`]. Where a call may find nothing, it answers an
-//! [`Option`]. [`walk`] marks a whole part box and leaves its cells in a table that the caller lends. [`layers`] takes
-//! such a table in place of a description, and says what area its cells have in each layer.
+//! A core is a [`Description`] in whole ticks (1/1024 mm) and level counts (1/1024), of one [`Surface`] or another.
+//! Each call takes a description and compiles it; nothing is kept between calls, nothing is allocated, and every call
+//! ends. What a call cannot work on it refuses by a number: [`Refusal`]. Where a call may find nothing, it answers an
+//! [`Option`]. [`walk`] marks a whole part box and leaves its cells in a table that the caller lends; a [`TieRule`]
+//! says across which axis it halves a box whose longest sides tie. [`layers`] takes such a table in place of a
+//! description, and says what area its cells have in each layer.
 //!
 //! ```
 //! use gyroid_cells::{Description, Interval, State, box_state, residual};
@@ -49,4 +50,4 @@ pub use description::{Description, Surface};
 pub use layers::{LAYER, Layer, Layers};
 pub use refusal::Refusal;
 pub use table::{Cell, Cells, Head, SLOT, Table};
-pub use values::{Bounds, Derivatives, Interval, Jet, Piece, Planes, Range, State, UnknownNumber};
+pub use values::{Bounds, Derivatives, Interval, Jet, Piece, Planes, Range, State, TieRule, UnknownNumber};

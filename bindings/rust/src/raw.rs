@@ -64,7 +64,7 @@ calls! {
     gyroid_planes() -> i64;
     gyroid_fast_distance(point: *const f64, point_length: usize) -> f64;
     gyroid_fast(point: *const f64, point_length: usize) -> f64;
-    gyroid_walk(bounds: *const i64, bounds_length: usize, depth: i64) -> u8;
+    gyroid_walk(bounds: *const i64, bounds_length: usize, depth: i64, rule: u32) -> u8;
 }
 
 unsafe extern "C" {

@@ -5,11 +5,11 @@ use crate::{Bounds, Layers, Refusal, State};
 /// The bytes of a slot: a walk of n cells wants a table of n + 1 slots.
 ///
 /// ```
-/// use gyroid_cells::{Bounds, Description, SLOT, walk};
+/// use gyroid_cells::{Bounds, Description, SLOT, TieRule, walk};
 ///
 /// let part = Bounds { low: [0; 3], high: [1024; 3] };
 /// let mut bytes = [0; (1 + 1) * SLOT];
-/// assert_eq!(walk(&Description::constant(10240, 2048), part, 0, &mut bytes)?.len(), 1);
+/// assert_eq!(walk(&Description::constant(10240, 2048), part, 0, TieRule::default(), &mut bytes)?.len(), 1);
 /// # Ok::<(), gyroid_cells::Refusal>(())
 /// ```
 pub const SLOT: usize = 32;
@@ -18,12 +18,12 @@ pub const SLOT: usize = 32;
 /// it iterates over the cells.
 ///
 /// ```
-/// use gyroid_cells::{Bounds, Description, State, walk};
+/// use gyroid_cells::{Bounds, Description, State, TieRule, walk};
 ///
 /// let core = Description::constant(10240, 2048);
 /// let part = Bounds { low: [0; 3], high: [1024; 3] };
 /// let mut bytes = [0; 64 * 32];
-/// let table = walk(&core, part, 1, &mut bytes)?;
+/// let table = walk(&core, part, 1, TieRule::default(), &mut bytes)?;
 ///
 /// let mut solid = 0;
 /// for cell in &table {
@@ -43,12 +43,12 @@ pub struct Table<'a> {
 /// What slot 0 says.
 ///
 /// ```
-/// use gyroid_cells::{Bounds, Description, Head, walk};
+/// use gyroid_cells::{Bounds, Description, Head, TieRule, walk};
 ///
 /// let part = Bounds { low: [0; 3], high: [1024; 3] };
 /// let mut bytes = [0; 96];
 /// let Head { cells, evaluated, solid, open, .. } =
-///     walk(&Description::constant(10240, 2048), part, 1, &mut bytes)?.head();
+///     walk(&Description::constant(10240, 2048), part, 1, TieRule::default(), &mut bytes)?.head();
 /// assert_eq!((cells, evaluated), (2, 3));
 /// assert_eq!(Some(solid + open), part.volume());
 /// # Ok::<(), gyroid_cells::Refusal>(())
@@ -70,11 +70,11 @@ pub struct Head {
 /// A box that the walk did not halve, its mark, and how deep in the walk it stands.
 ///
 /// ```
-/// use gyroid_cells::{Bounds, Cell, Description, State, walk};
+/// use gyroid_cells::{Bounds, Cell, Description, State, TieRule, walk};
 ///
 /// let part = Bounds { low: [0; 3], high: [512, 1024, 1024] };
 /// let mut bytes = [0; 64];
-/// let table = walk(&Description::constant(10240, 2048), part, 24, &mut bytes)?;
+/// let table = walk(&Description::constant(10240, 2048), part, 24, TieRule::default(), &mut bytes)?;
 /// assert_eq!(table.cells().next(), Some(Cell { state: State::Inside, depth: 0, bounds: part }));
 /// # Ok::<(), gyroid_cells::Refusal>(())
 /// ```
@@ -85,11 +85,11 @@ pub struct Cell {
     /// The halvings that led to it: 0 where the walk's box is one cell, 24 at most.
     ///
     /// ```
-    /// use gyroid_cells::{Bounds, Description, walk};
+    /// use gyroid_cells::{Bounds, Description, TieRule, walk};
     ///
     /// let core = Description::constant(10240, -128);
     /// let mut bytes = [0; 5 * 32];
-    /// let table = walk(&core, Bounds { low: [0; 3], high: [1024; 3] }, 3, &mut bytes)?;
+    /// let table = walk(&core, Bounds { low: [0; 3], high: [1024; 3] }, 3, TieRule::default(), &mut bytes)?;
     ///
     /// let lines: Vec<String> = table.cells().map(|cell| format!("{} {}", cell.depth, cell.state)).collect();
     /// println!("{}", lines.join("\n"));
@@ -104,11 +104,11 @@ pub struct Cell {
 /// The cells along a table's chain.
 ///
 /// ```
-/// use gyroid_cells::{Bounds, Cells, Description, walk};
+/// use gyroid_cells::{Bounds, Cells, Description, TieRule, walk};
 ///
 /// let part = Bounds { low: [0; 3], high: [1024; 3] };
 /// let mut bytes = [0; 96];
-/// let cells: Cells = walk(&Description::constant(10240, 2048), part, 1, &mut bytes)?.cells();
+/// let cells: Cells = walk(&Description::constant(10240, 2048), part, 1, TieRule::default(), &mut bytes)?.cells();
 /// let volumes: Option<u64> = cells.map(|cell| cell.bounds.volume()).sum();
 /// assert_eq!(volumes, part.volume());
 /// # Ok::<(), gyroid_cells::Refusal>(())
@@ -130,11 +130,11 @@ impl<'a> Table<'a> {
     /// all zero, as a walk refused by 13 leaves them, are a table without cells.
     ///
     /// ```
-    /// use gyroid_cells::{Bounds, Description, Table, walk};
+    /// use gyroid_cells::{Bounds, Description, Table, TieRule, walk};
     ///
     /// let core = Description::constant(10240, 2048);
     /// let mut bytes = [0; 96];
-    /// walk(&core, Bounds { low: [0; 3], high: [1024; 3] }, 1, &mut bytes)?;
+    /// walk(&core, Bounds { low: [0; 3], high: [1024; 3] }, 1, TieRule::default(), &mut bytes)?;
     ///
     /// assert_eq!(Table::read(&bytes).unwrap().len(), 2);
     /// assert!(Table::read(&bytes[..64]).is_none());
@@ -190,11 +190,11 @@ impl<'a> Table<'a> {
     /// The cells in the chain's order, which is the walk's.
     ///
     /// ```
-    /// use gyroid_cells::{Bounds, Description, State, walk};
+    /// use gyroid_cells::{Bounds, Description, State, TieRule, walk};
     ///
     /// let core = Description::constant(10240, 2048);
     /// let mut bytes = [0; 96];
-    /// let table = walk(&core, Bounds { low: [0; 3], high: [1024; 3] }, 1, &mut bytes)?;
+    /// let table = walk(&core, Bounds { low: [0; 3], high: [1024; 3] }, 1, TieRule::default(), &mut bytes)?;
     ///
     /// let unsettled: Vec<_> = table.cells().filter(|cell| cell.state == State::Unsettled).collect();
     /// assert_eq!(unsettled[0].bounds, Bounds { low: [512, 0, 0], high: [1024, 1024, 1024] });
@@ -208,11 +208,11 @@ impl<'a> Table<'a> {
     /// of a walk is sound; one that was read need not be, and is then refused by 15.
     ///
     /// ```
-    /// use gyroid_cells::{Bounds, Description, walk};
+    /// use gyroid_cells::{Bounds, Description, TieRule, walk};
     ///
     /// let core = Description::constant(10240, 2048);
     /// let (mut bytes, mut report) = ([0; 96], [0; 1024 * 24]);
-    /// let table = walk(&core, Bounds { low: [0; 3], high: [1024; 3] }, 1, &mut bytes)?;
+    /// let table = walk(&core, Bounds { low: [0; 3], high: [1024; 3] }, 1, TieRule::default(), &mut bytes)?;
     ///
     /// for layer in table.layers(0, 1024, &mut report)? {
     ///     assert_eq!((layer.inside, layer.area()), (512 * 1024, 1024 * 1024));

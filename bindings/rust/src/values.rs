@@ -2,7 +2,8 @@
 
 use core::fmt;
 
-/// A number that stands for nothing: for no [`State`], no [`Piece`], no [`Refusal`](crate::Refusal) of a call.
+/// A number that stands for nothing: for no [`State`], [`Piece`] or [`TieRule`], and for no [`Refusal`](crate::Refusal)
+/// of a call.
 ///
 /// ```
 /// use gyroid_cells::{State, UnknownNumber};
@@ -122,6 +123,53 @@ impl TryFrom<u32> for Piece {
     fn try_from(number: u32) -> Result<Self, UnknownNumber> {
         let pieces = [Piece::Start, Piece::Ramp, Piece::End];
         pieces.into_iter().find(|piece| *piece as u32 == number).ok_or(UnknownNumber(number))
+    }
+}
+
+/// The axis across which a [`walk`](crate::walk) halves a box where longest sides tie.
+///
+/// The grade axis of a core is the one on which `from` and `to` differ, of a linear level with unequal ends. Equal ends
+/// have none, and neither has a constant level.
+///
+/// ```
+/// use gyroid_cells::{Bounds, Description, TieRule, walk};
+///
+/// // A core that is graded along z, and a cube of 2 mm about the origin. The first of two cells is the lower half.
+/// let core = Description::linear(10240, [0; 3], [0, 0, 10240], -256, 256);
+/// let cube = Bounds { low: [-1024; 3], high: [1024; 3] };
+/// let lower = |rule| {
+///     let mut bytes = [0; 3 * 32];
+///     let table = walk(&core, cube, 1, rule, &mut bytes).expect("two cells");
+///     table.cells().next().map(|cell| cell.bounds.high)
+/// };
+/// assert_eq!(lower(TieRule::default()), Some([1024, 1024, 0]));
+/// assert_eq!(lower(TieRule::LowestAxis), Some([0, 1024, 1024]));
+/// ```
+///
+/// A rule that was kept by its number is read back:
+///
+/// ```
+/// use gyroid_cells::TieRule;
+///
+/// assert_eq!(TieRule::try_from(TieRule::LowestAxis as u32), Ok(TieRule::LowestAxis));
+/// assert!(TieRule::try_from(2).is_err());
+/// ```
+#[derive(Clone, Copy, Debug, Default, PartialEq, Eq, Hash)]
+pub enum TieRule {
+    /// The grade axis if it is among them, otherwise the lowest of them. So a core that is graded along z is cut across
+    /// z before x, and not left with tall cells that straddle its ramp.
+    #[default]
+    GradeAxis = 0,
+    /// The lowest of them: x before y before z, whatever the level. For a preview that relies on this cut.
+    LowestAxis = 1,
+}
+
+impl TryFrom<u32> for TieRule {
+    type Error = UnknownNumber;
+
+    fn try_from(number: u32) -> Result<Self, UnknownNumber> {
+        let rules = [TieRule::GradeAxis, TieRule::LowestAxis];
+        rules.into_iter().find(|rule| *rule as u32 == number).ok_or(UnknownNumber(number))
     }
 }
 

@@ -55,18 +55,18 @@ fn world() -> [Interval; 3] {
 
 /// The table of a walk by the library as it is, without a guard.
 fn unguarded() -> [u8; 64] {
-    let (core, bounds) = (ramp().entries(), [1280, 8960, 0, 1440, 9280, 320]);
+    let (core, bounds, rule) = (ramp().entries(), [1280, 8960, 0, 1440, 9280, 320], TieRule::default() as u32);
     let mut table = [0; 64];
-    let status = unsafe {
-        raw::gyroid_walk(core.as_ptr(), core.len(), bounds.as_ptr(), bounds.len(), 0, table.as_mut_ptr(), table.len())
-    };
+    let (at, length) = (table.as_mut_ptr(), table.len());
+    let status =
+        unsafe { raw::gyroid_walk(core.as_ptr(), core.len(), bounds.as_ptr(), bounds.len(), 0, rule, at, length) };
     assert_eq!(status, raw::FOUND);
     table
 }
 
 fn guarded(depth: i64) -> Vec<u8> {
     let mut table = vec![7; 2048 * SLOT];
-    walk(&ramp(), PART, depth, &mut table).unwrap();
+    walk(&ramp(), PART, depth, TieRule::default(), &mut table).unwrap();
     table
 }
 
@@ -131,7 +131,8 @@ fn layer_reports() {
 
 #[test]
 fn refusals() {
-    let refused = || walk(&ramp(), PART, 25, &mut []).map(|table| table.len()).map_err(Refusal::number);
+    let walked = || walk(&ramp(), PART, 25, TieRule::default(), &mut []).map(|table| table.len());
+    let refused = || walked().map_err(Refusal::number);
     for state in states() {
         assert_eq!(under(state, refused), (Err(12), state));
     }

@@ -1,6 +1,6 @@
-//! bindings/gyroid.h says the same as this crate: version, statuses, surfaces, states, pieces, refusals.
+//! bindings/gyroid.h says the same as this crate: version, statuses, surfaces, states, pieces, tie rules, refusals.
 
-use gyroid_cells::{Description, LAYER, Piece, Refusal, SLOT, State, Surface, graded, raw};
+use gyroid_cells::{Description, LAYER, Piece, Refusal, SLOT, State, Surface, TieRule, graded, raw};
 use std::collections::BTreeMap;
 
 const HEADER: &str = include_str!("../../gyroid.h");
@@ -38,6 +38,8 @@ fn numbers() {
     same("GYROID_START", Piece::Start as u32);
     same("GYROID_RAMP", Piece::Ramp as u32);
     same("GYROID_END", Piece::End as u32);
+    same("GYROID_TIES_TO_GRADE_AXIS", TieRule::GradeAxis as u32);
+    same("GYROID_TIES_TO_LOWEST_AXIS", TieRule::LowestAxis as u32);
     same("GYROID_INSIDE", State::Inside as u32);
     same("GYROID_OUTSIDE", State::Outside as u32);
     same("GYROID_UNSETTLED", State::Unsettled as u32);
@@ -52,6 +54,27 @@ fn kinds() {
     assert_eq!(named.map(|kind| refusal(kind.into())), [None, Some(constants["GYROID_REFUSED_SHEET"]), None]);
     let others = (-5..9).filter(|kind| named.iter().all(|name| i64::from(*name) != *kind));
     others.for_each(|kind| assert_eq!(refusal(kind), Some(constants["GYROID_REFUSED_ENTRY"]), "{kind}"));
+}
+
+/// The status of a walk by this rule, of a box that is not halved.
+fn walked(rule: u32) -> u32 {
+    let (core, bounds) = (Description::constant(10240, 2048).entries(), [0, 0, 0, 512, 512, 512]);
+    let mut table = [0; 2 * SLOT];
+    let (at, length) = (table.as_mut_ptr(), table.len());
+    // The slices are arrays of their own, alive for the call.
+    unsafe { raw::gyroid_walk(core.as_ptr(), core.len(), bounds.as_ptr(), bounds.len(), 0, rule, at, length) }
+}
+
+/// The tie rules that have a name in the header are those by which a walk is not refused.
+#[test]
+fn tie_rules() {
+    let constants = constants();
+    let named = constants.iter().filter(|(name, _)| name.starts_with("GYROID_TIES_TO_"));
+    let mut numbers: Vec<u32> = named.map(|(_, number)| *number).collect();
+    numbers.sort();
+    let rules: Vec<u32> = (0..9).chain([u32::MAX]).filter(|rule| walked(*rule) == raw::FOUND).collect();
+    assert_eq!(numbers, rules);
+    assert_eq!(walked(2), constants["GYROID_REFUSED_ENTRY"]);
 }
 
 /// Every refusal of the crate has a name in the header, and every name there is one of them.

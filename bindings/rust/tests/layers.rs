@@ -1,11 +1,12 @@
 //! The layer report as a service calls it: document 01's listing layer by layer, and each way that a report is left.
 
-use gyroid_cells::{Bounds, Description, LAYER, Layer, Refusal, SLOT, Table, layers, walk};
+use gyroid_cells::{Bounds, Description, LAYER, Layer, Refusal, SLOT, Table, TieRule, layers, walk};
 
 /// The table of document 01's listing: the lower half in x of a cube is inside, and the upper one is unsettled.
 fn listing() -> [u8; 3 * SLOT] {
+    let (core, cube) = (Description::constant(10240, 2048), Bounds { low: [0; 3], high: [1024; 3] });
     let mut bytes = [7; 3 * SLOT];
-    walk(&Description::constant(10240, 2048), Bounds { low: [0; 3], high: [1024; 3] }, 1, &mut bytes).unwrap();
+    walk(&core, cube, 1, TieRule::default(), &mut bytes).unwrap();
     bytes
 }
 

@@ -1,6 +1,6 @@
 //! Numbers and texts of what the calls take and answer, each way.
 
-use gyroid_cells::{Bounds, Description, Piece, Refusal, State, Surface, UnknownNumber};
+use gyroid_cells::{Bounds, Description, Piece, Refusal, State, Surface, TieRule, UnknownNumber};
 
 const REFUSALS: [u32; 16] = [1, 2, 3, 4, 5, 6, 7, 8, 9, 10, 11, 12, 13, 15, 16, 17];
 
@@ -13,6 +13,7 @@ fn known<T: TryFrom<u32>>() -> Vec<u32> {
 fn numbers_and_back() {
     assert_eq!(known::<State>(), [1, 2, 3]);
     assert_eq!(known::<Piece>(), [0, 1, 2]);
+    assert_eq!(known::<TieRule>(), [0, 1]);
     assert_eq!(known::<Refusal>(), REFUSALS);
     for state in [State::Inside, State::Outside, State::Unsettled] {
         assert_eq!(State::try_from(state as u32), Ok(state));
@@ -20,6 +21,10 @@ fn numbers_and_back() {
     for piece in [Piece::Start, Piece::Ramp, Piece::End] {
         assert_eq!(Piece::try_from(piece as u32), Ok(piece));
     }
+    for rule in [TieRule::GradeAxis, TieRule::LowestAxis] {
+        assert_eq!(TieRule::try_from(rule as u32), Ok(rule));
+    }
+    assert_eq!(TieRule::try_from(0), Ok(TieRule::default()));
     let core = Description::linear(10240, [1, 2, 3], [4, 5, 6], 7, 8);
     for surface in [Surface::Network, Surface::Primitive] {
         let made = core.with_surface(surface);

@@ -1,4 +1,4 @@
--- What lengths that refuse nothing are. Assumes nothing.
+-- What lengths that refuse nothing are, and the tie rule of a walk beside them. Assumes nothing.
 use mathlib.Core.Path.{_≡_, refl, sym, _∙_, subst⁻¹}
 use mathlib.Core.Bool.{Bool, true, false, not}
 use Prim.Native.Nat.{ℕ, _≤_}
@@ -6,8 +6,8 @@ use native.Mathlib.Nat.{le-refl}
 use borrow.Author.Tests.{ltb-false, eq-eqb, le-ltb}
 use lib.Dec.{T, eqb, ltb, eqb→eq}
 use Rattle.limits.specs.Refusals.{refused, _orElse_}
-use Rattle.limits.proofs.RefusalLaws.{none-first, none-last, kept}
-use Rattle.capi.specs.Lent.{lengths}
+use Rattle.limits.proofs.RefusalLaws.{none-first, none-last, kept, neither}
+use Rattle.capi.specs.Lent.{lengths, walkLent}
 
 not-false : (b : Bool) → T (not b) → b ≡ false
 not-false true t = absurd t
@@ -33,6 +33,15 @@ sized d g w r n e z =
 pub right : {d g w r n : ℕ} → Sized d g w r n → lengths d g w r n ≡ 0
 unfolding lengths
 right {d} {g} {w} {r} {n} s = rw (eq-eqb d 18 (s .entries), eq-eqb g w (s .argument), le-ltb r n (s .room)) refl
+
+-- of a walk, whose rule is then one of the two
+pub walk-sized : (d b rule : ℕ) {m : ℕ} → m ≡ walkLent d b rule → m ≡ 0 → Sized d b 6 0 0
+unfolding walkLent
+walk-sized d b rule e z = sized d b 6 0 0 refl (neither (lengths d b 6 0 0) (refused (ltb 1 rule) 1) (sym e ∙ z) .0)
+
+pub walk-right : {d b rule : ℕ} → Sized d b 6 0 0 → rule ≤ 1 → walkLent d b rule ≡ 0
+unfolding walkLent
+walk-right {rule} s h = rw (right s, le-ltb 1 rule h) refl
 
 -- an argument of its length has that many numbers
 pub holds : {m n : ℕ} → m ≡ n → n ≤ m

@@ -2,7 +2,7 @@
 use mathlib.Core.Path.{_≡_}
 use mathlib.Core.Bool.{Bool, cond}
 use mathlib.Core.List.{List, [], _∷_, map}
-use Prim.Native.Nat.{ℕ, _+_}
+use Prim.Native.Nat.{ℕ, _+_, _≤_}
 use lib.Dec.{eqb, ltb}
 use lib.IntN.{ℤ, pos, natAbs}
 use lib.Ieee.{Float}
@@ -18,8 +18,10 @@ use Rattle.gyroid.specs.declared.Jet.{Jet}
 use Rattle.calls.specs.declared.Derivatives.{Derivatives}
 use Rattle.calls.specs.Calls as calls
 use Rattle.tree.specs.Box.{boxFrom}
+use Rattle.walk.specs.declared.TieRule.{TieRule}
+use Rattle.walk.specs.declared.TieRule.the-variants.{GradeAxis, LowestAxis}
 use Rattle.walk.specs.InUse.{walkNumber, walkTable, Supposed, Demand}
-use Rattle.capi.specs.Lent.{level, description, wholePoint, point, box, triangle, lengths, unless}
+use Rattle.capi.specs.Lent.{level, description, wholePoint, point, box, triangle, lengths, walkLent, unless}
 
 -- ---- answers as rows of numbers
 abbrev pub each : {A B : Type 0} → (A → B) → Said A → Said B
@@ -112,19 +114,27 @@ unfoldable pub fastDistance : List ℤ → List Float → ℕ → Said Float
 fastDistance ds p room = unless (lengths (length ds) (length p) 3 room 1) (calls.fastDistanceCall (description ds) (point p))
 
 -- ---- the walk: what it returns, and what it leaves in the table t
-unfoldable pub walkStatus : List ℤ → List ℤ → ℤ → ℕ → ℕ
-walkStatus ds ns D len = lengths (length ds) (length ns) 6 0 0 orElse walkNumber (description ds) (wholePoint ns 0) (wholePoint ns 3) D len
+-- 0 is the default tie rule, 1 the lowest axis; another number is refused 1, as a piece's is
+abbrev pub tieRule : ℕ → TieRule
+tieRule n = cond (eqb n 0) GradeAxis LowestAxis
 
-unfoldable pub walkLeft : List ℤ → List ℤ → ℤ → List ℕ → List ℕ
-walkLeft ds ns D t = cond (eqb (lengths (length ds) (length ns) 6 0 0) 0) (walkTable (description ds) (wholePoint ns 0) (wholePoint ns 3) D t) t
+unfoldable pub walkStatus : List ℤ → List ℤ → ℤ → ℕ → ℕ → ℕ
+walkStatus ds ns D rule len =
+    walkLent (length ds) (length ns) rule orElse walkNumber (description ds) (wholePoint ns 0) (wholePoint ns 3) D (tieRule rule) len
 
--- DEMAND 3 of it: what is supposed of the slices, and what is said of the bytes t that are left in the table
-pub record WalkSupposed (ds ns : List ℤ) (D : ℤ) (len : ℕ) : Type 0 where
+unfoldable pub walkLeft : List ℤ → List ℤ → ℤ → ℕ → List ℕ → List ℕ
+walkLeft ds ns D rule t =
+    cond (eqb (walkLent (length ds) (length ns) rule) 0) (walkTable (description ds) (wholePoint ns 0) (wholePoint ns 3) D (tieRule rule) t) t
+
+-- DEMAND 3 of it: what is supposed of the slices and the rule, and what is said of the bytes t that are left in the table
+pub record WalkSupposed (ds ns : List ℤ) (D : ℤ) (rule len : ℕ) : Type 0 where
   -- the entries of a description are lent, and three lows and three highs;
   pub entries : length ds ≡ 18
   pub ends : length ns ≡ 6
+  -- the rule is one of the two;
+  pub rules : rule ≤ 1
   -- they and the table are as demand 3 supposes
-  pub supposed : Supposed (description ds) (wholePoint ns 0) (wholePoint ns 3) D len
+  pub supposed : Supposed (description ds) (wholePoint ns 0) (wholePoint ns 3) D (tieRule rule) len
 
-abbrev pub WalkDemand : List ℤ → List ℤ → ℤ → List ℕ → Type 0
-WalkDemand ds ns D t = Demand (description ds) (boxFrom (wholePoint ns 0) (wholePoint ns 3)) (natAbs D) t
+abbrev pub WalkDemand : List ℤ → List ℤ → ℤ → ℕ → List ℕ → Type 0
+WalkDemand ds ns D rule t = Demand (description ds) (boxFrom (wholePoint ns 0) (wholePoint ns 3)) (natAbs D) (tieRule rule) t

@@ -68,6 +68,10 @@ unfoldable pub lengths : ℕ → ℕ → ℕ → ℕ → ℕ → ℕ
 lengths description given wanted room needed =
     refused (not (eqb given wanted)) 101 orElse refused (ltb room needed) 101 orElse refused (not (eqb description 18)) 1
 
+-- of a walk with a box of six ends; then 1: a tie rule that is neither 0 nor 1
+unfoldable pub walkLent : ℕ → ℕ → ℕ → ℕ
+walkLent description bounds rule = lengths description bounds 6 0 0 orElse refused (ltb 1 rule) 1
+
 -- a call that the number n refuses before it is made
 abbrev pub unless : {A : Type 0} → ℕ → Said A → Said A
 unless n said = cond (eqb n 0) said (refusing n)

@@ -2,7 +2,7 @@
 // ticks is three lows and three highs; a box of doubles is the low and the high end of each axis; a triangle is three such boxes. Each
 // call returns a status: 0 where its values stand at the front of `out`, the documents' number where it refuses, 100 where nothing is
 // found, 101 where a slice has the wrong length. Nothing but those values is written.
-pub mod lengths; // what the lengths of the lent slices refuse
+pub mod lengths; // what the lengths of the lent slices refuse, and the rule of a walk
 pub mod reading; // what is read from a slice
 mod writing; // what is left in one
 
@@ -12,11 +12,13 @@ ghost use Rattle.layers.specs.Layers.{layersNumber, layersReport, Reported};
 ghost use Rattle.capi.specs.Lent.{status, written};
 ghost use Rattle.capi.specs.Exports as exports;
 use crate::lengths::lengths;
+use crate::lengths::walk_lent;
 use crate::reading::corners_at;
 use crate::reading::describe;
 use crate::reading::level_of;
 use crate::reading::piece_of;
 use crate::reading::point_at;
+use crate::reading::rule_of;
 use crate::reading::whole_point;
 use crate::reading::world_at;
 use crate::writing::put_derivatives;
@@ -293,20 +295,22 @@ pub extern "C" fn gyroid_fast_distance(description: &[i64], point: &[f64], out: 
     put_double(fast_distance(describe(description), point_at(point)), out)
 }
 
-// Writes the cells of the box to `table`. Returns 0, document 01's number or 101; there is no `out`.
+// Writes the cells of the box to `table`. Where spans tie, `rule` 0 takes the grade axis and 1 the lowest; another is refused 1. Returns 0,
+// document 01's number or 101; there is no `out`.
 #[no_mangle]
 pub extern "C" fn gyroid_walk(
     description: &[i64],
     bounds: &[i64],
     depth: i64,
+    rule: u32,
     table: &mut [u8],
 ) -> u32
-    ensures answer { λ r. ⌜ r ≡ exports.walkStatus (now (description .entry)) (now (bounds .entry)) depth (length (now (table .entry))) ⌝ }
-    ensures left { λ _. ⌜ now (table .exit) ≡ exports.walkLeft (now (description .entry)) (now (bounds .entry)) depth (now (table .entry)) ⌝ }
-    ensures demand { λ _. ⌜ (exports.WalkSupposed (now (description .entry)) (now (bounds .entry)) depth (length (now (table .entry)))
-        → exports.WalkDemand (now (description .entry)) (now (bounds .entry)) depth (now (table .exit))) ⌝ }
+    ensures answer { λ r. ⌜ r ≡ exports.walkStatus (now (description .entry)) (now (bounds .entry)) depth rule (length (now (table .entry))) ⌝ }
+    ensures left { λ _. ⌜ now (table .exit) ≡ exports.walkLeft (now (description .entry)) (now (bounds .entry)) depth rule (now (table .entry)) ⌝ }
+    ensures demand { λ _. ⌜ (exports.WalkSupposed (now (description .entry)) (now (bounds .entry)) depth rule (length (now (table .entry)))
+        → exports.WalkDemand (now (description .entry)) (now (bounds .entry)) depth rule (now (table .exit))) ⌝ }
 {
-    let number = lengths(description.len(), bounds.len(), 6, 0, 0);
+    let number = walk_lent(description.len(), bounds.len(), rule);
     if number != 0 {
         return number;
     }
@@ -315,6 +319,7 @@ pub extern "C" fn gyroid_walk(
         whole_point(bounds, 0),
         whole_point(bounds, 3),
         depth,
+        rule_of(rule),
         table,
     )
 }

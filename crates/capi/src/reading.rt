@@ -3,12 +3,13 @@ ghost use mathlib.Core.Path.{_≡_};
 ghost use Prim.Native.Nat.{_+_, _≤_};
 ghost use lib.ListN.{length};
 ghost use Rattle.capi.specs.Lent as lent;
-ghost use Rattle.capi.specs.Exports.{piece};
+ghost use Rattle.capi.specs.Exports.{piece, tieRule};
 use grade::Grade;
 use grade::Piece;
 use gyroid::Description;
 use gyroid::Frame;
 use interval::Interval;
+use walk::TieRule;
 
 pub fn whole_point(s: &[i64], at: usize) -> [i64; 3]
     requires { ⌜ at + 3 ≤ length (now s) ⌝ }
@@ -101,4 +102,14 @@ pub fn piece_of(number: u32) -> Piece
         return Piece::Ramp;
     }
     Piece::End
+}
+
+// 0 is the default.
+pub fn rule_of(number: u32) -> TieRule
+    ensures { λ r. ⌜ r ≡ tieRule number ⌝ }
+{
+    if number == 0 {
+        return TieRule::GradeAxis;
+    }
+    TieRule::LowestAxis
 }

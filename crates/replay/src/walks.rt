@@ -1,6 +1,6 @@
-// The list of walks over the original's box state or document 02's. A case begins with 27 words, whole numbers as 2^62 more than
-// themselves: the 18 entries of a description, a box, the depth, the bytes of the table, the status. The bytes that the walk leaves in the
-// table follow, then zeros up to a whole word.
+// The list of walks over the original's box state or document 02's. A case begins with 28 words, whole numbers as 2^62 more than
+// themselves: the 18 entries of a description, a box, the depth, the tie rule, the bytes of the table, the status. The bytes that the walk
+// leaves in the table follow, then zeros up to a whole word.
 ghost use Prim.Native.Nat.{_≤_};
 ghost use lib.ListN.{length};
 use crate::lent::LONGEST;
@@ -10,6 +10,7 @@ use crate::lent::set_unwritten;
 use crate::tally::Tally;
 use crate::words::bounds;
 use crate::words::entries;
+use crate::words::narrow;
 use crate::words::offset;
 use crate::words::read_words;
 
@@ -18,8 +19,8 @@ fn leaves(w: [u64; 42], table: &mut [u8], bytes: &[u8]) -> bool {
     set_unwritten(table);
     let d = entries(w);
     let b = bounds(w, 18);
-    let status = capi::gyroid_walk(&d, &b, offset(w[24]), table);
-    if status as i64 != offset(w[26]) {
+    let status = capi::gyroid_walk(&d, &b, offset(w[24]), narrow(w[25]), table);
+    if status as i64 != offset(w[27]) {
         return false;
     }
     check::same(table, bytes)
@@ -52,13 +53,13 @@ fn table_of(fd: i32, w: [u64; 42], n: usize, t: Tally) -> Tally
 }
 
 fn case(fd: i32, t: Tally) -> Tally {
-    let words = read_words(fd, 27);
+    let words = read_words(fd, 28);
     if words.bytes == 0 {
         return t.ended();
     }
     let w = words.at;
-    let n = length_of(w[25]);
-    if words.bytes < 216 || n > LONGEST {
+    let n = length_of(w[26]);
+    if words.bytes < 224 || n > LONGEST {
         return broken(t);
     }
     table_of(fd, w, n, t)

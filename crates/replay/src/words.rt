@@ -56,6 +56,11 @@ pub(crate) fn offset(n: u64) -> i64 {
     0
 }
 
+// n less 2^62, of a number below 2^32: 2^62 is a multiple of 2^32.
+pub(crate) fn narrow(n: u64) -> u32 {
+    (n % 0x1_0000_0000) as u32
+}
+
 // Zeros of either sign are alike, and so are all NaNs.
 pub(crate) fn same(x: f64, y: f64) -> bool {
     if x != x { y != y } else { x == y }

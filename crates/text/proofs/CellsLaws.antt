@@ -16,6 +16,7 @@ use Rattle.limits.proofs.RefusalLaws.{refused-is, answer-is}
 use Rattle.table.specs.declared.Head.{Head}
 use Rattle.table.specs.Table.{Record}
 use Rattle.grade.specs.InUse.{inUse}
+use Rattle.walk.specs.declared.TieRule.the-variants.{LowestAxis}
 use Rattle.walk.specs.Demand.{Every}
 use Rattle.walk.proofs.TableLaws.{InTree, Tells, tells}
 use Rattle.text.specs.declared.parse.Line.{Line}
@@ -39,7 +40,8 @@ tells-fit t ms e w = listing-fits t _ ms (w .told) (w .head-fits) (omega (arith,
 
 fits : (ns : List ℤ) → numberOf ns (length freshTable) ≡ 0 → length (listing (tableOf ns freshTable)) ≤ 131072
 unfolding numberOf tableOf freshTable
-fits ns e = tells-fit _ _ (omega (arith, length-replicate {A = ℕ} 65536 0)) (tells inUse (described ns) (lowsIn ns) (highsIn ns) (depthIn ns) freshTable e)
+fits ns e =
+    tells-fit _ _ (omega (arith, length-replicate {A = ℕ} 65536 0)) (tells inUse (described ns) (lowsIn ns) (highsIn ns) (depthIn ns) LowestAxis freshTable e)
 
 -- ---- what is printed
 pub fresh : replicate 65536 0 ≡ freshTable

@@ -1,4 +1,5 @@
--- PROGRAM `cells`, from the bytes that it reads to those that it prints: document 01's words in quotes. Definitions only; assumes nothing.
+-- PROGRAM `cells`, from the bytes that it reads to those that it prints: document 01's words in quotes, and document 02's. Definitions only; assumes
+-- nothing.
 use mathlib.Core.Bool.{cond}
 use mathlib.Core.List.{List, [], _∷_}
 use Prim.Native.Nat.{ℕ, _+_}
@@ -7,6 +8,7 @@ use lib.IntN.{ℤ, pos}
 use lib.ListN.{length, replicate}
 use Rattle.limits.specs.Ticks.{at}
 use Rattle.gyroid.specs.declared.Description.{Description}
+use Rattle.walk.specs.declared.TieRule.the-variants.{LowestAxis}
 use Rattle.walk.specs.InUse.{walkNumber, walkTable}
 use Rattle.text.specs.Line.{lineOf}
 use Rattle.text.specs.Listing.{refusedText, listing}
@@ -46,12 +48,13 @@ highsIn ns = threeFrom ns 13
 abbrev pub depthIn : List ℤ → ℤ
 depthIn ns = at ns 16
 
--- the walk of a line's numbers: what it returns with a table of `len` bytes, and what it leaves of the table t
+-- the walk of a line's numbers: what it returns with a table of `len` bytes, and what it leaves of the table t. Of "the lowest-axis rule" document 02
+-- says: "The program `cells` names it too, so its listing stands."
 unfoldable pub numberOf : List ℤ → ℕ → ℕ
-numberOf ns len = walkNumber (described ns) (lowsIn ns) (highsIn ns) (depthIn ns) len
+numberOf ns len = walkNumber (described ns) (lowsIn ns) (highsIn ns) (depthIn ns) LowestAxis len
 
 unfoldable pub tableOf : List ℤ → List ℕ → List ℕ
-tableOf ns t = walkTable (described ns) (lowsIn ns) (highsIn ns) (depthIn ns) t
+tableOf ns t = walkTable (described ns) (lowsIn ns) (highsIn ns) (depthIn ns) LowestAxis t
 
 -- "It uses a 64 KiB table"
 unfoldable pub freshTable : List ℕ

@@ -11,6 +11,7 @@ use crate::print::put_refused;
 use grade::Grade;
 use gyroid::Description;
 use gyroid::Frame;
+use walk::TieRule;
 use walk::calls::walk;
 
 // Three numbers of a line, from a place on.
@@ -45,7 +46,7 @@ fn described(numbers: [i64; 17]) -> Description
     }
 }
 
-// The walk of a line's numbers.
+// The walk of a line's numbers, by the lowest-axis rule.
 fn walk_line(numbers: [i64; 17], table: &mut [u8]) -> u32
     ensures answer { λ r. ⌜ r ≡ numberOf numbers (length (now (table .entry))) ⌝ }
     ensures left { λ _. ⌜ now (table .exit) ≡ tableOf numbers (now (table .entry)) ⌝ }
@@ -55,6 +56,7 @@ fn walk_line(numbers: [i64; 17], table: &mut [u8]) -> u32
         three_from(numbers, 10),
         three_from(numbers, 13),
         numbers[16],
+        TieRule::LowestAxis,
         table,
     )
 }

@@ -1,8 +1,9 @@
 -- The laws of boxes and of the tree. The layers above cite what is `pub` here. Assumes nothing.
--- boxes of ticks: spans, halves, the longest span, the number of tick cubes
+-- boxes of ticks: spans, halves, the longest span, ties, the number of tick cubes
 pub mod Spans
 pub mod HalfLaws
 pub mod LongestLaws
+pub mod CutLaws
 pub mod VolumeLaws
 -- the box that the code holds
 pub mod TickLaws

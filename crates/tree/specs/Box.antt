@@ -57,12 +57,17 @@ pub record Good (b : Box) : Type 0 where
   pub least : (a : Axis) → negsuc 1048575 ≤ℤ low a b
   pub most : (a : Axis) → high a b ≤ℤ pos 1048576
 
--- ---- the halving: "halve the longest span, ties to the lowest axis, at low + span div 2"
+-- ---- the halving: "halve the longest span, .. at low + span div 2"
+-- where spans tie, the lowest axis
 unfoldable pub longest : Box → Axis
 longest b =
     cond (leb (span Y b) (span X b))
     (cond (leb (span Z b) (span X b)) X Z)
     (cond (leb (span Z b) (span Y b)) Y Z)
+
+-- document 02's L6, "Where spans tie": the axis a "if it is among them, otherwise the lowest"
+unfoldable pub cut : Axis → Box → Axis
+cut a b = cond (eqb (span a b) (span (longest b) b)) a (longest b)
 
 abbrev pub middle : Axis → Box → ℤ
 middle a b = low a b +ℤ pos (span a b / 2)

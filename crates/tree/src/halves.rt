@@ -1,7 +1,7 @@
-// The halving: the longest span, at its middle.
+// The halving: the longest span, at its middle, and the axis that ties go to.
 ghost use mathlib.Core.Path.{_≡_};
 ghost use Prim.Native.Nat.{_+_, _-_, _/_, _≤_};
-ghost use Rattle.tree.specs.Box.{Good, longest, lower, upper, boxOf};
+ghost use Rattle.tree.specs.Box.{Good, longest, cut, lower, upper, boxOf};
 use crate::Axis;
 use crate::ShiftedBox;
 
@@ -14,7 +14,7 @@ fn middle(low: usize, high: usize) -> usize
 
 impl ShiftedBox {
     // The axis of the longest span, the lowest where spans tie.
-    pub fn longest(self) -> Axis
+    fn longest(self) -> Axis
         requires { ⌜ Good (boxOf self) ⌝ }
         ensures { λ r. ⌜ r ≡ longest (boxOf self) ⌝ }
     {
@@ -31,6 +31,31 @@ impl ShiftedBox {
             return Axis::Y;
         }
         Axis::Z
+    }
+
+    // The axis of the longest span: where spans tie, `ties` if it is among them, otherwise the lowest.
+    pub fn cut(self, ties: Axis) -> Axis
+        requires { ⌜ Good (boxOf self) ⌝ }
+        ensures { λ r. ⌜ r ≡ cut ties (boxOf self) ⌝ }
+    {
+        let x = self.hx - self.lx;
+        let y = self.hy - self.ly;
+        let z = self.hz - self.lz;
+        match ties {
+            Axis::X => self.longest(),
+            Axis::Y => {
+                if (x <= y) & (z <= y) {
+                    return Axis::Y;
+                }
+                self.longest()
+            }
+            Axis::Z => {
+                if (x <= z) & (y <= z) {
+                    return Axis::Z;
+                }
+                self.longest()
+            }
+        }
     }
 
     pub fn lower(self, a: Axis) -> ShiftedBox

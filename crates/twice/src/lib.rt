@@ -7,8 +7,9 @@ ghost use mathlib.Core.Path.{_≡_};
 ghost use lib.ListN.{length};
 ghost use Rattle.capi.specs.Exports as exports;
 use crate::calls::walk_twice;
-use capi::lengths::lengths;
+use capi::lengths::walk_lent;
 use capi::reading::describe;
+use capi::reading::rule_of;
 use capi::reading::whole_point;
 
 // As `gyroid_walk`.
@@ -17,12 +18,13 @@ pub extern "C" fn gyroid_walk_twice(
     description: &[i64],
     bounds: &[i64],
     depth: i64,
+    rule: u32,
     table: &mut [u8],
 ) -> u32
-    ensures answer { λ r. ⌜ r ≡ exports.walkStatus (now (description .entry)) (now (bounds .entry)) depth (length (now (table .entry))) ⌝ }
-    ensures left { λ _. ⌜ now (table .exit) ≡ exports.walkLeft (now (description .entry)) (now (bounds .entry)) depth (now (table .entry)) ⌝ }
+    ensures answer { λ r. ⌜ r ≡ exports.walkStatus (now (description .entry)) (now (bounds .entry)) depth rule (length (now (table .entry))) ⌝ }
+    ensures left { λ _. ⌜ now (table .exit) ≡ exports.walkLeft (now (description .entry)) (now (bounds .entry)) depth rule (now (table .entry)) ⌝ }
 {
-    let number = lengths(description.len(), bounds.len(), 6, 0, 0);
+    let number = walk_lent(description.len(), bounds.len(), rule);
     if number != 0 {
         return number;
     }
@@ -31,6 +33,7 @@ pub extern "C" fn gyroid_walk_twice(
         whole_point(bounds, 0),
         whole_point(bounds, 3),
         depth,
+        rule_of(rule),
         table,
     )
 }

@@ -21,14 +21,17 @@ use Rattle.limits.proofs.TickLaws.{both}
 use Rattle.grade.proofs.EntryLaws.{ticks-within}
 use Rattle.limits.proofs.RefusalLaws.{none-first, none-last, kept, neither}
 use Rattle.grade.specs.InUse.{inUse}
+use Rattle.grade.specs.declared.AnchorAxis.{AnchorAxis}
+use Rattle.grade.specs.Certified.{defAxis}
 use Rattle.gyroid.specs.declared.Compiled.{Compiled}
 use Rattle.gyroid.specs.declared.Description.{Description}
 use Rattle.gyroid.specs.declared.Gyroid.{Gyroid}
 use Rattle.gyroid.specs.Refusals.{refusal}
 use Rattle.gyroid.specs.InUse.{leaf}
 use Rattle.gyroid.specs.FunctionsInUse.{certified}
-use Rattle.gyroid.proofs.LeafLaws.{number-is, leaf-is}
-use Rattle.tree.specs.Box.{Box, Good, boxFrom, low, high, longest}
+use Rattle.gyroid.proofs.LeafLaws.{number-is, leaf-is, grade-is}
+use Rattle.tree.specs.declared.Axis.{Axis}
+use Rattle.tree.specs.Box.{Box, Good, boxFrom, low, high}
 use Rattle.tree.specs.InTicks.{InTicks}
 use Rattle.tree.specs.Tree.{leaves, cells}
 use Rattle.tree.proofs.HalfLaws.{by-axis}
@@ -42,12 +45,14 @@ use Rattle.table.specs.Placed.{placed}
 use Rattle.table.proofs.PlacedLaws.{placed-cells}
 use Rattle.table.proofs.Written.{written}
 use Rattle.walk.specs.declared.Counted.{Counted}
+use Rattle.walk.specs.declared.TieRule.{TieRule}
 use Rattle.walk.specs.Walk
-use Rattle.walk.specs.Walk.{spans, depths, entryRefusal}
+use Rattle.walk.specs.Walk.{cutBy, cutOf, spans, depths, entryRefusal}
 use Rattle.walk.specs.InUse.{roomRefusal, roomTable, walkNumber, walkTable}
 use Rattle.walk.specs.FunctionsInUse.{settled, cellsOf, recordsOf}
 use Rattle.walk.specs.Counted.{headWith}
 use Rattle.walk.proofs.RecordLaws.{records-leaves}
+use Rattle.walk.proofs.TieLaws.{cut-of}
 use Rattle.walk.proofs.CountedLaws.{counted-cells, counted-head}
 use Rattle.walk.proofs.FilledLaws.{HasRoom}
 
@@ -92,45 +97,45 @@ entered n lo hi D e =
     most (negsuc n) s t = absurd s
 
 -- ---- behind them, of a table t: the first cell goes to slot 1, the others to the slots from 2 on
-module _ (g : Gyroid) (D : ℕ) (b : Box) (t : List ℕ) where
+module _ (g : Gyroid) (axis : Box → Axis) (D : ℕ) (b : Box) (t : List ℕ) where
   -- the cells outgrow the table
-  pub room-refused : {z : List ℕ} → z ≡ replicate (length t) 0 → length t / 32 + 1 < 2 + leaves (settled g) longest D b
-      → (13 ≡ roomRefusal g D b (length t)) × (z ≡ roomTable g D b (length t))
+  pub room-refused : {z : List ℕ} → z ≡ replicate (length t) 0 → length t / 32 + 1 < 2 + leaves (settled g) axis D b
+      → (13 ≡ roomRefusal g axis D b (length t)) × (z ≡ roomTable g axis D b (length t))
   unfolding Walk.roomRefusal Walk.roomTable
   room-refused ez h =
-      let e = lt-ltb (length t / 32) (length (cellsOf g D b) + 1) (omega (arith, length-cells (settled g) longest D 0 b)) in
+      let e = lt-ltb (length t / 32) (length (cellsOf g axis D b) + 1) (omega (arith, length-cells (settled g) axis D 0 b)) in
       (rw e, rw e ez)
 
   -- the writer's cells from the root on, whose depth is 0
-  pub root-placed : {x : Box} {m : List ℕ} → m ≡ placed t 1 2 0 (recordsOf g (cells (settled g) longest D (D - D) x)) → x ≡ b
-      → m ≡ placed t 1 2 0 (recordsOf g (cellsOf g D b))
-  root-placed e f = e ∙ (λ i. placed t 1 2 0 (recordsOf g (cells (settled g) longest D (sub-self D i) (f i))))
+  pub root-placed : {x : Box} {m : List ℕ} → m ≡ placed t 1 2 0 (recordsOf g (cells (settled g) axis D (D - D) x)) → x ≡ b
+      → m ≡ placed t 1 2 0 (recordsOf g (cellsOf g axis D b))
+  root-placed e f = e ∙ (λ i. placed t 1 2 0 (recordsOf g (cells (settled g) axis D (sub-self D i) (f i))))
 
   -- the table holds them
-  pub room-done : {c : Counted} {h : Head} {m z r : List ℕ} → HasRoom g D b 2 (length t / 32) c → m ≡ placed t 1 2 0 (recordsOf g (cellsOf g D b))
+  pub room-done : {c : Counted} {h : Head} {m z r : List ℕ} → HasRoom g axis D b 2 (length t / 32) c → m ≡ placed t 1 2 0 (recordsOf g (cellsOf g axis D b))
       → z ≡ sets m (32 * (c .cells + 1)) (replicate (length m - 32 * (c .cells + 1)) 0) → h ≡ headWith c b → r ≡ sets z 0 (headBytes h)
-      → (0 ≡ roomRefusal g D b (length t)) × (r ≡ roomTable g D b (length t))
+      → (0 ≡ roomRefusal g axis D b (length t)) × (r ≡ roomTable g axis D b (length t))
   unfolding Walk.roomRefusal Walk.roomTable Walk.tableOf
   room-done {c} {h} room em ez eh er =
-      let ms : List Record = recordsOf g (cellsOf g D b) in
-      let n = counted-cells g D b (room .counted) in
-      let many = records-leaves inUse g D 0 b in
+      let ms : List Record = recordsOf g (cellsOf g axis D b) in
+      let n = counted-cells g axis D b (room .counted) in
+      let many = records-leaves inUse g axis D 0 b in
       let fits = room .fits in
-      let e = le-ltb (length t / 32) (length (cellsOf g D b) + 1) (omega (arith, length-cells (settled g) longest D 0 b)) in
+      let e = le-ltb (length t / 32) (length (cellsOf g axis D b) + 1) (omega (arith, length-cells (settled g) axis D 0 b)) in
       let w = written (c .cells) h ms t (em ∙ placed-cells t (c .cells) 1 ms (omega (arith, n, many))) ez er (many ∙ sym n) (omega (arith, n)) in
-      (rw e, rw e (w ∙ ap (λ (x : Head). tableBytes (length t) x ms) (eh ∙ counted-head g D b (room .counted))))
+      (rw e, rw e (w ∙ ap (λ (x : Head). tableBytes (length t) x ms) (eh ∙ counted-head g axis D b (room .counted))))
 
 -- ---- what the call returns and leaves, by the refusals before 13
-module _ (d : Description) (lo hi : List ℤ) (D : ℤ) (t : List ℕ) {n : ℕ} (number : n ≡ entryRefusal (refusal d) lo hi D) where
-  pub walk-refused : (n ≡ 0 → ⊥) → (n ≡ walkNumber d lo hi D (length t)) × (t ≡ walkTable d lo hi D t)
+module _ (d : Description) (lo hi : List ℤ) (D : ℤ) (rule : TieRule) (t : List ℕ) {n : ℕ} (number : n ≡ entryRefusal (refusal d) lo hi D) where
+  pub walk-refused : (n ≡ 0 → ⊥) → (n ≡ walkNumber d lo hi D rule (length t)) × (t ≡ walkTable d lo hi D rule t)
   unfolding Walk.walkNumber Walk.walkTable
   walk-refused h =
       let e = ap (λ (k : ℕ). eqb k 0) (sym number) ∙ ne-eqb n 0 h in
       (rw e number, rw e)
 
-  pub walk-ran : n ≡ 0 → {r : ℕ} {u : List ℕ} → r ≡ roomRefusal (leaf d) (natAbs D) (boxFrom lo hi) (length t)
-      → u ≡ roomTable (leaf d) (natAbs D) (boxFrom lo hi) (length t)
-      → (r ≡ walkNumber d lo hi D (length t)) × (u ≡ walkTable d lo hi D t)
+  pub walk-ran : n ≡ 0 → {r : ℕ} {u : List ℕ} → r ≡ roomRefusal (leaf d) (cutOf rule d) (natAbs D) (boxFrom lo hi) (length t)
+      → u ≡ roomTable (leaf d) (cutOf rule d) (natAbs D) (boxFrom lo hi) (length t)
+      → (r ≡ walkNumber d lo hi D rule (length t)) × (u ≡ walkTable d lo hi D rule t)
   unfolding Walk.walkNumber Walk.walkTable
   walk-ran h p q =
       let e = ap (λ (k : ℕ). eqb k 0) (sym number) ∙ eq-eqb n 0 h in
@@ -155,12 +160,16 @@ module _ (d : Description) (lo hi : List ℤ) {D : ℤ} {m : Compiled} (f : SFit
     pub made-lendable : Lendable (m .leaf)
     made-lendable = subst⁻¹ Lendable (leaf-is d made (t .described)) (leaf-lendable d)
 
-    -- what the walk behind the refusals says
-    module _ {b : Box} (box : b ≡ boxFrom lo hi) (len : ℕ) where
-      pub ran-number : {r : ℕ} → r ≡ roomRefusal (m .leaf) (natAbs (toZ w64 (ofZ w64 D))) b len
-          → r ≡ roomRefusal (leaf d) (natAbs D) (boxFrom lo hi) len
-      ran-number e = e ∙ (λ i. roomRefusal (leaf-is d made (t .described) i) (natAbs (back {x = D} f i)) (box i) len)
+    -- what the walk behind the refusals says, which halves by the rule and the axis a of the level
+    module _ (rule : TieRule) {axis : Box → Axis} {a : AnchorAxis} (by-rule : axis ≡ cutBy rule a) (level : a ≡ defAxis (m .leaf .grade))
+        {b : Box} (box : b ≡ boxFrom lo hi) (len : ℕ) where
+      axis-is : axis ≡ cutOf rule d
+      axis-is = cut-of rule d by-rule level (grade-is d made (t .described))
 
-      pub ran-table : {u : List ℕ} → u ≡ roomTable (m .leaf) (natAbs (toZ w64 (ofZ w64 D))) b len
-          → u ≡ roomTable (leaf d) (natAbs D) (boxFrom lo hi) len
-      ran-table e = e ∙ (λ i. roomTable (leaf-is d made (t .described) i) (natAbs (back {x = D} f i)) (box i) len)
+      pub ran-number : {r : ℕ} → r ≡ roomRefusal (m .leaf) axis (natAbs (toZ w64 (ofZ w64 D))) b len
+          → r ≡ roomRefusal (leaf d) (cutOf rule d) (natAbs D) (boxFrom lo hi) len
+      ran-number e = e ∙ (λ i. roomRefusal (leaf-is d made (t .described) i) (axis-is i) (natAbs (back {x = D} f i)) (box i) len)
+
+      pub ran-table : {u : List ℕ} → u ≡ roomTable (m .leaf) axis (natAbs (toZ w64 (ofZ w64 D))) b len
+          → u ≡ roomTable (leaf d) (cutOf rule d) (natAbs D) (boxFrom lo hi) len
+      ran-table e = e ∙ (λ i. roomTable (leaf-is d made (t .described) i) (axis-is i) (natAbs (back {x = D} f i)) (box i) len)

@@ -1,5 +1,5 @@
--- DEMAND 3: of an accepted description, a box of whole ticks within the limits with spans of at least 1, and a depth of 0 to 24, the bytes that the
--- walk leaves say of the part what document 01 asks. Assumes nothing.
+-- DEMAND 3: of an accepted description, a box of whole ticks within the limits with spans of at least 1, a depth of 0 to 24, and either tie rule, the
+-- bytes that the walk leaves say of the part what document 01 asks. Any rule is fair, and nothing else is asked of it. Assumes nothing.
 use mathlib.Core.Path.{_≡_, refl, sym, ap, _∙_, subst, subst⁻¹}
 use mathlib.Core.Bool.{Bool, true, cond, _||_}
 use mathlib.Core.Logic.{_⊎_, inl, inr, ⊎-elim}
@@ -22,10 +22,10 @@ use Rattle.gyroid.specs.Leaf.{leaf}
 use Rattle.gyroid.specs.Residual.{stateNumber}
 use Rattle.gyroid.specs.Settles.{Settles}
 use Rattle.gyroid.proofs.EnclosureLaws.{state-settles}
-use Rattle.tree.specs.Box.{Box, Good, lows, highs, longest, oneCube, volume, holdsCube, holders}
-use Rattle.tree.specs.Tree.{Cell, leaves}
+use Rattle.tree.specs.declared.Axis.{Axis}
+use Rattle.tree.specs.Box.{Box, Good, lows, highs, oneCube, volume, holdsCube, holders}
+use Rattle.tree.specs.Tree.{Cell, leaves, Fair}
 use Rattle.tree.specs.Cells.{All, Stopped}
-use Rattle.tree.proofs.LongestLaws.{fair-longest}
 use Rattle.tree.proofs.VolumeLaws.{volume-small}
 use Rattle.tree.proofs.CountLaws.{length-cells, box-count-leaves, leaves-le, leaves-least, leaves-small, box-count-small}
 use Rattle.tree.proofs.SolidLaws.{solid-le}
@@ -42,10 +42,12 @@ use Rattle.table.proofs.ReadBack.{told}
 use Rattle.sound.specs.Sound.{soundOf}
 use Rattle.sound.proofs.FreshLaws.{told-sound}
 use Rattle.layers.specs.Layers.{crossing}
-use Rattle.walk.specs.Walk.{stateAt, isSettled, settled, inside, cellsOf, evaluatedOf, solidOf, recordOf, recordsOf, headOf, tableOf}
+use Rattle.walk.specs.declared.TieRule.{TieRule}
+use Rattle.walk.specs.Walk.{cutOf, stateAt, isSettled, settled, inside, cellsOf, evaluatedOf, solidOf, recordOf, recordsOf, headOf, tableOf}
 use Rattle.walk.specs.Walk.{roomRefusal, roomTable}
 use Rattle.walk.specs.Demand.{Every, Pairwise, recordBoxes, AllBelowZero, AllAboveZero, Undecided, Demand}
 use Rattle.walk.proofs.EndLaws.{lows-ticks, highs-ticks}
+use Rattle.walk.proofs.TieLaws.{fair-of}
 use Rattle.walk.proofs.SoundLaws.{sound-cells, volumes-box, crossing-box}
 use Rattle.walk.proofs.RecordLaws.{length-records, record-boxes-are, every, pairwise}
 
@@ -80,19 +82,25 @@ cube-stops : (s : State) (c : Bool) → s ≡ Unsettled → (isSettled s || c) �
 cube-stops s c e t = subst (λ (r : State). (isSettled r || c) ≡ true) e t
 
 -- the room that 13 leaves
-pub room-left : (ar : Arithmetic) (g : Gyroid) (D : ℕ) (b : Box) (len : ℕ) → roomRefusal ar g D b len ≡ 0
-    → length (recordsOf ar g (cellsOf ar g D b)) + 1 ≤ len / 32
+pub room-left : (ar : Arithmetic) (g : Gyroid) (axis : Box → Axis) (D : ℕ) (b : Box) (len : ℕ) → roomRefusal ar g axis D b len ≡ 0
+    → length (recordsOf ar g (cellsOf ar g axis D b)) + 1 ≤ len / 32
 unfolding roomRefusal
-room-left ar g D b len e =
+room-left ar g axis D b len e =
     omega (
       arith,
-      length-records ar g (cellsOf ar g D b),
-      nltb→le (len / 32) (length (cellsOf ar g D b) + 1) (none-last (ltb (len / 32) (length (cellsOf ar g D b) + 1)) 12 e),
+      length-records ar g (cellsOf ar g axis D b),
+      nltb→le (len / 32) (length (cellsOf ar g axis D b) + 1) (none-last (ltb (len / 32) (length (cellsOf ar g axis D b) + 1)) 12 e),
     )
 
-module _ (ar : Arithmetic) (d : Description) (accepted : Accepted d) (D : ℕ) where
+module _ (ar : Arithmetic) (d : Description) (accepted : Accepted d) (D : ℕ) (rule : TieRule) where
+  abbrev axis : Box → Axis
+  axis = cutOf rule d
+
+  fair : Fair axis
+  fair = fair-of rule d
+
   -- ---- of one cell of the tree
-  module _ (c : Cell) (m : Stopped (settled ar (leaf ar d)) longest D c) where
+  module _ (c : Cell) (m : Stopped (settled ar (leaf ar d)) axis D c) where
     settles : Settles d (lows (c .box)) (highs (c .box)) (stateAt ar (leaf ar d) (c .box))
     unfolding stateAt
     settles = state-settles ar d accepted (lows (c .box)) (highs (c .box)) (lows-ticks (c .box) (m .good)) (highs-ticks (c .box) (m .good))
@@ -117,36 +125,36 @@ module _ (ar : Arithmetic) (d : Description) (accepted : Accepted d) (D : ℕ) w
   -- ---- of the tree of a box
   module _ (shallow : D ≤ 24) (b : Box) (good : Good b) where
     abbrev cs : List Cell
-    cs = cellsOf ar (leaf ar d) D b
+    cs = cellsOf ar (leaf ar d) axis D b
 
     abbrev head : Head
-    head = headOf ar (leaf ar d) D b
+    head = headOf ar (leaf ar d) axis D b
 
     abbrev ms : List Record
     ms = recordsOf ar (leaf ar d) cs
 
-    pub each : All (Stopped (settled ar (leaf ar d)) longest D) cs
-    each = subst (λ (k : ℕ). All (Stopped (settled ar (leaf ar d)) longest k) cs) (zero-add D)
-        (stopped (settled ar (leaf ar d)) longest fair-longest D 0 b good)
+    pub each : All (Stopped (settled ar (leaf ar d)) axis D) cs
+    each = subst (λ (k : ℕ). All (Stopped (settled ar (leaf ar d)) axis k) cs) (zero-add D)
+        (stopped (settled ar (leaf ar d)) axis fair D 0 b good)
 
-    all-fit : (cs : List Cell) → All (Stopped (settled ar (leaf ar d)) longest D) cs → AllFit (recordsOf ar (leaf ar d) cs)
+    all-fit : (cs : List Cell) → All (Stopped (settled ar (leaf ar d)) axis D) cs → AllFit (recordsOf ar (leaf ar d) cs)
     unfolding recordsOf
     all-fit [] q = tt
     all-fit (c ∷ cs) q = (fits c (q .0) shallow, all-fit cs (q .1))
 
-    cells-many : length cs ≡ leaves (settled ar (leaf ar d)) longest D b
-    cells-many = length-cells (settled ar (leaf ar d)) longest D 0 b
+    cells-many : length cs ≡ leaves (settled ar (leaf ar d)) axis D b
+    cells-many = length-cells (settled ar (leaf ar d)) axis D 0 b
 
-    solid-most : solidOf ar (leaf ar d) D b ≤ volume b
-    solid-most = solid-le (inside ar (leaf ar d)) (settled ar (leaf ar d)) longest fair-longest D 0 b good
+    solid-most : solidOf ar (leaf ar d) axis D b ≤ volume b
+    solid-most = solid-le (inside ar (leaf ar d)) (settled ar (leaf ar d)) axis fair D 0 b good
 
     pub head-fits : HeadFits head
     head-fits =
         let v = volume-small b good in
         record {
           first = omega arith;
-          cells = omega (arith, cells-many, leaves-small (settled ar (leaf ar d)) longest D b shallow);
-          evaluated = omega (arith, box-count-small (settled ar (leaf ar d)) longest D b shallow);
+          cells = omega (arith, cells-many, leaves-small (settled ar (leaf ar d)) axis D b shallow);
+          evaluated = omega (arith, box-count-small (settled ar (leaf ar d)) axis D b shallow);
           solid = omega (arith, solid-most, v);
           «open» = omega (arith, v);
         }
@@ -156,30 +164,30 @@ module _ (ar : Arithmetic) (d : Description) (accepted : Accepted d) (D : ℕ) w
 
     -- the tick cubes that a list of the tree's boxes holds
     covered : (x y z : ℤ) → holders x y z (recordBoxes ms) ≡ cond (holdsCube x y z b) 1 0
-    covered x y z = ap (holders x y z) (record-boxes-are ar (leaf ar d) cs) ∙ cover (settled ar (leaf ar d)) longest fair-longest x y z D 0 b good
+    covered x y z = ap (holders x y z) (record-boxes-are ar (leaf ar d) cs) ∙ cover (settled ar (leaf ar d)) axis fair x y z D 0 b good
 
     -- ---- what a table says whose reading this is
     module _ (t : List ℕ) (room : 32 * (length ms + 1) ≤ length t) (r : Told t head ms) where
       holders-are : (x y z : ℤ) → holders x y z (recordBoxes (recordsIn t)) ≡ cond (holdsCube x y z b) 1 0
       holders-are x y z = ap (λ (l : List Record). holders x y z (recordBoxes l)) (r .records-are) ∙ covered x y z
 
-      cells-read : cellsIn t ≡ leaves (settled ar (leaf ar d)) longest D b
+      cells-read : cellsIn t ≡ leaves (settled ar (leaf ar d)) axis D b
       cells-read = ap (λ (h : Head). h .cells) (r .head-is) ∙ cells-many
 
-      evaluated-read : evaluatedIn t ≡ evaluatedOf ar (leaf ar d) D b
+      evaluated-read : evaluatedIn t ≡ evaluatedOf ar (leaf ar d) axis D b
       evaluated-read = ap (λ (h : Head). h .evaluated) (r .head-is)
 
-      solid-read : solidIn t ≡ solidOf ar (leaf ar d) D b
+      solid-read : solidIn t ≡ solidOf ar (leaf ar d) axis D b
       solid-read = ap (λ (h : Head). h .solid) (r .head-is)
 
       cells-some : 1 ≤ length ms
-      cells-some = omega (arith, length-records ar (leaf ar d) cs, cells-many, leaves-least (settled ar (leaf ar d)) longest D b)
+      cells-some = omega (arith, length-records ar (leaf ar d) cs, cells-many, leaves-least (settled ar (leaf ar d)) axis D b)
 
       is-sound : soundOf t ≡ true
-      is-sound = told-sound r refl (sym (length-records ar (leaf ar d) cs)) cells-some room (sound-cells ar (leaf ar d) D shallow cs each)
-          (omega (arith, volumes-box ar (leaf ar d) D b good, volume-small b good))
+      is-sound = told-sound r refl (sym (length-records ar (leaf ar d) cs)) cells-some room (sound-cells ar (leaf ar d) axis D shallow cs each)
+          (omega (arith, volumes-box ar (leaf ar d) axis fair D b good, volume-small b good))
 
-      says : Demand ar d b D t
+      says : Demand ar d b D rule t
       says = record {
         one-cell = λ x y z h. holders-are x y z ∙ rw h;
         no-cell = λ x y z h. holders-are x y z ∙ rw h;
@@ -192,12 +200,12 @@ module _ (ar : Arithmetic) (d : Description) (accepted : Accepted d) (D : ℕ) w
         marked = subst⁻¹ (Every (λ m. (m .state ≡ 3 → ⊥) → (m .state ≡ 1) ⊎ (m .state ≡ 2))) (r .records-are)
             (every ar (leaf ar d) _ _ (λ c m. number-other (stateAt ar (leaf ar d) (c .box))) cs each);
         zeros = r .zeros;
-        evaluated = omega (arith, evaluated-read, cells-read, box-count-leaves (settled ar (leaf ar d)) longest D b);
+        evaluated = omega (arith, evaluated-read, cells-read, box-count-leaves (settled ar (leaf ar d)) axis D b);
         evaluated-most = omega (
           arith,
           evaluated-read,
-          box-count-leaves (settled ar (leaf ar d)) longest D b,
-          leaves-le (settled ar (leaf ar d)) longest D b,
+          box-count-leaves (settled ar (leaf ar d)) axis D b,
+          leaves-le (settled ar (leaf ar d)) axis D b,
           two-pow-succ D,
         );
         evaluated-tree = evaluated-read;
@@ -206,13 +214,13 @@ module _ (ar : Arithmetic) (d : Description) (accepted : Accepted d) (D : ℕ) w
         solid = solid-read;
         rest = omega (arith, solid-read, ap (λ (h : Head). h .«open») (r .head-is), solid-most);
         sound = is-sound;
-        layer-area = λ z. ap (crossing z) (r .records-are) ∙ crossing-box ar (leaf ar d) D b good z;
+        layer-area = λ z. ap (crossing z) (r .records-are) ∙ crossing-box ar (leaf ar d) axis fair D b good z;
       }
 
     -- DEMAND 3 of what an accepted walk leaves
-    pub demand : (len : ℕ) → roomRefusal ar (leaf ar d) D b len ≡ 0 → {t : List ℕ} → t ≡ roomTable ar (leaf ar d) D b len → Demand ar d b D t
+    pub demand : (len : ℕ) → roomRefusal ar (leaf ar d) axis D b len ≡ 0 → {t : List ℕ} → t ≡ roomTable ar (leaf ar d) axis D b len → Demand ar d b D rule t
     unfolding roomTable tableOf
     demand len room e =
-        let fits : 32 * (length ms + 1) ≤ len = omega (arith, room-left ar (leaf ar d) D b len room) in
+        let fits : 32 * (length ms + 1) ≤ len = omega (arith, room-left ar (leaf ar d) axis D b len room) in
         let long = length-table len head ms fits in
-        subst⁻¹ (Demand ar d b D) (e ∙ rw (eq-eqb _ 0 room)) (says _ (omega arith) (read len))
+        subst⁻¹ (Demand ar d b D rule) (e ∙ rw (eq-eqb _ 0 room)) (says _ (omega arith) (read len))

@@ -6,7 +6,8 @@ use native.Mathlib.Omega.{arith}
 use lib.Dec.{leb}
 use borrow.Author.Tests.{le-leb, lt-leb, leb-true, leb-false}
 use Rattle.gyroid.specs.declared.Gyroid.{Gyroid}
-use Rattle.tree.specs.Box.{Box, longest}
+use Rattle.tree.specs.declared.Axis.{Axis}
+use Rattle.tree.specs.Box.{Box}
 use Rattle.tree.specs.Tree.{leaves}
 use Rattle.walk.specs.declared.Counted.{Counted}
 use Rattle.walk.specs.declared.Filled.{Filled}
@@ -14,37 +15,37 @@ use Rattle.walk.specs.declared.Filled.the-variants.{Done, Full}
 use Rattle.walk.specs.FunctionsInUse.{settled}
 use Rattle.walk.specs.Counted.{countedOf, filledOf}
 
-module _ (g : Gyroid) (d : ℕ) (b : Box) (fresh slots : ℕ) where
+module _ (g : Gyroid) (axis : Box → Axis) (d : ℕ) (b : Box) (fresh slots : ℕ) where
   -- the slot behind the last cell's
   abbrev end : ℕ
-  end = fresh + leaves (settled g) longest d b
+  end = fresh + leaves (settled g) axis d b
 
   pub record HasRoom (c : Counted) : Type 0 where
-    pub fits : fresh + leaves (settled g) longest d b ≤ slots + 1
-    pub counted : c ≡ countedOf g d b
+    pub fits : fresh + leaves (settled g) axis d b ≤ slots + 1
+    pub counted : c ≡ countedOf g axis d b
 
-  pub is-done : fresh + leaves (settled g) longest d b ≤ slots + 1 → {c : Counted} → c ≡ countedOf g d b → Done c ≡ filledOf g d b fresh slots
+  pub is-done : fresh + leaves (settled g) axis d b ≤ slots + 1 → {c : Counted} → c ≡ countedOf g axis d b → Done c ≡ filledOf g axis d b fresh slots
   unfolding filledOf
   is-done h e = rw (le-leb end (slots + 1) h, e)
 
-  pub is-full : slots + 1 < fresh + leaves (settled g) longest d b → Full ≡ filledOf g d b fresh slots
+  pub is-full : slots + 1 < fresh + leaves (settled g) axis d b → Full ≡ filledOf g axis d b fresh slots
   unfolding filledOf
   is-full h = rw (lt-leb end (slots + 1) h)
 
-  done-by : (t : Bool) (c : Counted) → leb end (slots + 1) ≡ t → cond t (Done (countedOf g d b)) Full ≡ Done c → HasRoom c
+  done-by : (t : Bool) (c : Counted) → leb end (slots + 1) ≡ t → cond t (Done (countedOf g axis d b)) Full ≡ Done c → HasRoom c
   done-by true c p q = record { fits = leb-true _ _ p; counted = cc }
   done-by false c p q = let z : _≡_ {A = ℕ} 0 1 = cc in absurd (omega arith)
 
-  full-by : (t : Bool) → leb end (slots + 1) ≡ t → cond t (Done (countedOf g d b)) Full ≡ Full → slots + 1 < fresh + leaves (settled g) longest d b
+  full-by : (t : Bool) → leb end (slots + 1) ≡ t → cond t (Done (countedOf g axis d b)) Full ≡ Full → slots + 1 < fresh + leaves (settled g) axis d b
   full-by true p q = let z : _≡_ {A = ℕ} 0 1 = cc in absurd (omega arith)
   full-by false p q = leb-false _ _ p
 
   -- of an answer r that the code has looked at
-  module _ {r : Filled} (answer : r ≡ filledOf g d b fresh slots) where
+  module _ {r : Filled} (answer : r ≡ filledOf g axis d b fresh slots) where
     pub done-tells : {c : Counted} → r ≡ Done c → HasRoom c
     unfolding filledOf
     done-tells q = done-by _ _ refl (sym answer ∙ q)
 
-    pub full-tells : r ≡ Full → slots + 1 < fresh + leaves (settled g) longest d b
+    pub full-tells : r ≡ Full → slots + 1 < fresh + leaves (settled g) axis d b
     unfolding filledOf
     full-tells q = full-by _ refl (sym answer ∙ q)

@@ -2,6 +2,8 @@
 mod StepLaws
 mod RecordLaws
 mod SoundLaws
+-- the axis by either tie rule: for this walk and for others
+pub mod TieLaws
 -- what is counted, what the writer answers, and what a walk returns and leaves: for this one and for others
 pub mod CountedLaws
 pub mod FilledLaws

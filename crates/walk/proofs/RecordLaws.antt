@@ -9,7 +9,7 @@ use Rattle.gyroid.specs.declared.State.{State}
 use Rattle.gyroid.specs.Residual.{stateNumber}
 use Rattle.grade.specs.InUse.{inUse}
 use Rattle.tree.specs.declared.Axis.{Axis}
-use Rattle.tree.specs.Box.{Box, longest, lower, upper}
+use Rattle.tree.specs.Box.{Box, lower, upper}
 use Rattle.tree.specs.Tree.{Cell, cells, leaves, cellBoxes}
 use Rattle.tree.proofs.CountLaws.{length-cells}
 use Rattle.tree.proofs.CoverLaws.{cell-boxes-none, cell-boxes-more}
@@ -53,20 +53,22 @@ module _ (ar : Arithmetic) (g : Gyroid) where
   pairwise P Q f [] q = tt
   pairwise P Q f (c ∷ cs) q = (f c (q .0), pairwise P Q f cs (q .1))
 
-  pub records-leaves : (d k : ℕ) (b : Box) → length (Walk.recordsOf ar g (cells (Walk.settled ar g) longest d k b)) ≡ leaves (Walk.settled ar g) longest d b
-  records-leaves d k b = length-records (cells (Walk.settled ar g) longest d k b) ∙ length-cells (Walk.settled ar g) longest d k b
+  pub records-leaves : (axis : Box → Axis) (d k : ℕ) (b : Box)
+      → length (Walk.recordsOf ar g (cells (Walk.settled ar g) axis d k b)) ≡ leaves (Walk.settled ar g) axis d b
+  records-leaves axis d k b = length-records (cells (Walk.settled ar g) axis d k b) ∙ length-cells (Walk.settled ar g) axis d k b
 
 -- in use: the records of a box that is a cell, and of one that is halved
-module _ (g : Gyroid) where
-  pub records-cell : (d k : ℕ) (b : Box) (s : State) {x : ℕ} → AtCell g d b s → x ≡ stateNumber s
-      → recordsOf g (cells (settled g) longest d k b) ≡ record { state = x; depth = k; box = b } ∷ []
+module _ (g : Gyroid) (axis : Box → Axis) where
+  pub records-cell : (d k : ℕ) (b : Box) (s : State) {x : ℕ} → AtCell g axis d b s → x ≡ stateNumber s
+      → recordsOf g (cells (settled g) axis d k b) ≡ record { state = x; depth = k; box = b } ∷ []
   records-cell d k b s at e =
       ap (recordsOf g) (at .tree .cells1 k) ∙ records-one inUse g (record { box = b; depth = k })
       ∙ (λ i. record { state = (ap stateNumber (at .state) ∙ sym e) i; depth = k; box = b } ∷ [])
 
-  pub records-halves : (d k j : ℕ) (b l h : Box) (a : Axis) → AtHalves g d b a → j ≡ suc k → l ≡ lower a b → h ≡ upper a b
-      → recordsOf g (cells (settled g) longest d k b)
-      ≡ recordsOf g (cells (settled g) longest (d - 1) j l) ++ recordsOf g (cells (settled g) longest (d - 1) j h)
+  pub records-halves : (d k j : ℕ) (b l h : Box) (a : Axis) → AtHalves g axis d b a → j ≡ suc k → l ≡ lower a b → h ≡ upper a b
+      → recordsOf g (cells (settled g) axis d k b)
+      ≡ recordsOf g (cells (settled g) axis (d - 1) j l) ++ recordsOf g (cells (settled g) axis (d - 1) j h)
   records-halves d k j b l h a at s e f =
-      ap (recordsOf g) (at .cells2 k e f) ∙ records-append inUse g (cells (settled g) longest (d - 1) (suc k) l) (cells (settled g) longest (d - 1) (suc k) h)
-      ∙ ap (λ (i : ℕ). recordsOf g (cells (settled g) longest (d - 1) i l) ++ recordsOf g (cells (settled g) longest (d - 1) i h)) (sym s)
+      ap (recordsOf g) (at .cells2 k e f)
+      ∙ records-append inUse g (cells (settled g) axis (d - 1) (suc k) l) (cells (settled g) axis (d - 1) (suc k) h)
+      ∙ ap (λ (i : ℕ). recordsOf g (cells (settled g) axis (d - 1) i l) ++ recordsOf g (cells (settled g) axis (d - 1) i h)) (sym s)

@@ -11,10 +11,10 @@ use Rattle.gyroid.specs.declared.Gyroid.{Gyroid}
 use Rattle.gyroid.specs.declared.State.{State}
 use Rattle.gyroid.specs.declared.State.the-variants.{Inside, Outside, Unsettled}
 use Rattle.gyroid.specs.Residual.{stateNumber}
-use Rattle.tree.specs.Box.{Box, Good, longest, volume, areaAt}
-use Rattle.tree.specs.Tree.{Cell}
+use Rattle.tree.specs.declared.Axis.{Axis}
+use Rattle.tree.specs.Box.{Box, Good, volume, areaAt}
+use Rattle.tree.specs.Tree.{Cell, Fair}
 use Rattle.tree.specs.Cells.{All, Stopped}
-use Rattle.tree.proofs.LongestLaws.{fair-longest}
 use Rattle.tree.proofs.VolumeLaws.{volume-halves}
 use Rattle.tree.proofs.AreaLaws.{area-halves}
 use Rattle.tree.proofs.SumLaws.{sumOf, sum-cells, sum-none, sum-more}
@@ -35,13 +35,14 @@ number-most Outside = omega arith
 number-most Unsettled = omega arith
 
 module _ (ar : Arithmetic) (g : Gyroid) where
-  pub sound-cells : (D : ℕ) → D ≤ 24 → (cs : List Cell) → All (Stopped (settled ar g) longest D) cs → soundCells (recordsOf ar g cs) ≡ true
+  pub sound-cells : (axis : Box → Axis) (D : ℕ) → D ≤ 24 → (cs : List Cell) → All (Stopped (settled ar g) axis D) cs
+      → soundCells (recordsOf ar g cs) ≡ true
   unfolding recordsOf
-  sound-cells D h [] q = no-cells
-  sound-cells D h (c ∷ cs) q =
+  sound-cells axis D h [] q = no-cells
+  sound-cells axis D h (c ∷ cs) q =
       let s = stateAt ar g (c .box) in
       one-cell-more (recordOf ar g c) (recordsOf ar g cs)
-      (record { least = number-least s; most = number-most s; depth = omega (arith, q .0 .depth-le); good = q .0 .good }) (sound-cells D h cs (q .1))
+      (record { least = number-least s; most = number-most s; depth = omega (arith, q .0 .depth-le); good = q .0 .good }) (sound-cells axis D h cs (q .1))
 
   -- ---- a sum over the records is the sum over the cells
   volumes-are : (cs : List Cell) → volumes (recordsOf ar g cs) ≡ sumOf volume cs
@@ -54,9 +55,9 @@ module _ (ar : Arithmetic) (g : Gyroid) where
   crossing-is z [] = crossing-none z ∙ sym (sum-none (areaAt z))
   crossing-is z (c ∷ cs) = omega (arith, crossing-more z (recordOf ar g c) (recordsOf ar g cs), crossing-is z cs, sum-more (areaAt z) c cs)
 
-  module _ (D : ℕ) (b : Box) (good : Good b) where
-    pub volumes-box : volumes (recordsOf ar g (cellsOf ar g D b)) ≡ volume b
-    volumes-box = volumes-are (cellsOf ar g D b) ∙ sum-cells volume volume-halves (settled ar g) longest fair-longest D 0 b good
+  module _ (axis : Box → Axis) (fair : Fair axis) (D : ℕ) (b : Box) (good : Good b) where
+    pub volumes-box : volumes (recordsOf ar g (cellsOf ar g axis D b)) ≡ volume b
+    volumes-box = volumes-are (cellsOf ar g axis D b) ∙ sum-cells volume volume-halves (settled ar g) axis fair D 0 b good
 
-    pub crossing-box : (z : ℤ) → crossing z (recordsOf ar g (cellsOf ar g D b)) ≡ areaAt z b
-    crossing-box z = crossing-is z (cellsOf ar g D b) ∙ sum-cells (areaAt z) (area-halves z) (settled ar g) longest fair-longest D 0 b good
+    pub crossing-box : (z : ℤ) → crossing z (recordsOf ar g (cellsOf ar g axis D b)) ≡ areaAt z b
+    crossing-box z = crossing-is z (cellsOf ar g axis D b) ∙ sum-cells (areaAt z) (area-halves z) (settled ar g) axis fair D 0 b good

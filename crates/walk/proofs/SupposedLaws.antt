@@ -22,13 +22,14 @@ use Rattle.gyroid.specs.Refusals.{refusal}
 use Rattle.gyroid.specs.Leaf.{leaf}
 use Rattle.tree.specs.declared.Axis.the-variants.{X, Y, Z}
 use Rattle.tree.specs.Box.{boxFrom}
-use Rattle.walk.specs.Walk.{cellsOf, spans, depths, entryRefusal, roomRefusal, walkNumber}
+use Rattle.walk.specs.declared.TieRule.{TieRule}
+use Rattle.walk.specs.Walk.{cutOf, cellsOf, spans, depths, entryRefusal, roomRefusal, walkNumber}
 use Rattle.walk.specs.Demand.{Supposed}
 use Rattle.walk.proofs.CallLaws.{entered}
 
-module _ (ar : Arithmetic) (d : Description) (lo hi : List ℤ) (D : ℤ) (len : ℕ) where
+module _ (ar : Arithmetic) (d : Description) (lo hi : List ℤ) (D : ℤ) (rule : TieRule) (len : ℕ) where
   -- ---- no refusal before 13, nor 13
-  module _ (s : Supposed ar d lo hi D len) where
+  module _ (s : Supposed ar d lo hi D rule len) where
     limits-pass : T (ticks lo && ticks hi)
     limits-pass = and-i (ticks lo) (ticks hi) (s .lows) (s .highs)
 
@@ -45,21 +46,21 @@ module _ (ar : Arithmetic) (d : Description) (lo hi : List ℤ) (D : ℤ) (len :
     entry-none =
         rw (s .accepted, is-true (ticks lo && ticks hi) limits-pass, is-true (spans lo hi) spans-pass, is-true (depths D) depths-pass) refl
 
-    pub room-none : roomRefusal ar (leaf ar d) (natAbs D) (boxFrom lo hi) len ≡ 0
+    pub room-none : roomRefusal ar (leaf ar d) (cutOf rule d) (natAbs D) (boxFrom lo hi) len ≡ 0
     unfolding roomRefusal
-    room-none = rw (le-ltb (len / 32) (length (cellsOf ar (leaf ar d) (natAbs D) (boxFrom lo hi)) + 1) (omega (arith, s .room))) refl
+    room-none = rw (le-ltb (len / 32) (length (cellsOf ar (leaf ar d) (cutOf rule d) (natAbs D) (boxFrom lo hi)) + 1) (omega (arith, s .room))) refl
 
     -- the call returns 0
-    pub supposed-none : walkNumber ar d lo hi D len ≡ 0
+    pub supposed-none : walkNumber ar d lo hi D rule len ≡ 0
     unfolding walkNumber
     supposed-none = rw (entry-none, room-none) refl
 
   -- ---- and back
-  pub none-supposed : walkNumber ar d lo hi D len ≡ 0 → Supposed ar d lo hi D len
+  pub none-supposed : walkNumber ar d lo hi D rule len ≡ 0 → Supposed ar d lo hi D rule len
   unfolding walkNumber roomRefusal entryRefusal
   none-supposed none =
-      let cells = length (cellsOf ar (leaf ar d) (natAbs D) (boxFrom lo hi)) in
-      let (e, r) = neither (entryRefusal (refusal d) lo hi D) (roomRefusal ar (leaf ar d) (natAbs D) (boxFrom lo hi) len) none in
+      let cells = length (cellsOf ar (leaf ar d) (cutOf rule d) (natAbs D) (boxFrom lo hi)) in
+      let (e, r) = neither (entryRefusal (refusal d) lo hi D) (roomRefusal ar (leaf ar d) (cutOf rule d) (natAbs D) (boxFrom lo hi) len) none in
       let h = entered (refusal d) lo hi D e in
       let (t, _) = none-first (not (ticks lo && ticks hi)) 0 (refusal d orElse refused (not (spans lo hi)) 11 orElse refused (not (depths D)) 12) e in
       let (low, high) = both (ticks lo) (ticks hi) (kept (ticks lo && ticks hi) t) in

@@ -7,7 +7,8 @@ use lib.ListN.{length}
 use lib.Dec.{leb}
 use Rattle.gyroid.specs.declared.Gyroid.{Gyroid}
 use Rattle.gyroid.specs.declared.State.{State}
-use Rattle.tree.specs.Box.{Box, longest, volume}
+use Rattle.tree.specs.declared.Axis.{Axis}
+use Rattle.tree.specs.Box.{Box, volume}
 use Rattle.tree.specs.Tree.{leaves, cells}
 use Rattle.table.specs.declared.Head.{Head}
 use Rattle.table.specs.Placed.{placed}
@@ -18,8 +19,8 @@ use Rattle.walk.specs.Walk.{isInside}
 use Rattle.walk.specs.FunctionsInUse.{settled, evaluatedOf, solidOf, recordsOf}
 
 -- of the tree of a box to the depth d
-unfoldable pub countedOf : Gyroid → ℕ → Box → Counted
-countedOf g d b = record { cells = leaves (settled g) longest d b; evaluated = evaluatedOf g d b; solid = solidOf g d b }
+unfoldable pub countedOf : Gyroid → (Box → Axis) → ℕ → Box → Counted
+countedOf g axis d b = record { cells = leaves (settled g) axis d b; evaluated = evaluatedOf g axis d b; solid = solidOf g axis d b }
 
 -- of one cell
 abbrev pub oneCell : State → Box → Counted
@@ -40,11 +41,11 @@ pub record Adds (l h : Counted) : Type 0 where
   pub solid : l .solid + h .solid ≤ 9223372036854775808
 
 -- the writer's answer: the cells but the first go to the slots from `fresh` on, of a table of `slots` slots
-unfoldable pub filledOf : Gyroid → ℕ → Box → ℕ → ℕ → Filled
-filledOf g d b fresh slots = cond (leb (fresh + leaves (settled g) longest d b) (slots + 1)) (Done (countedOf g d b)) Full
+unfoldable pub filledOf : Gyroid → (Box → Axis) → ℕ → Box → ℕ → ℕ → Filled
+filledOf g axis d b fresh slots = cond (leb (fresh + leaves (settled g) axis d b) (slots + 1)) (Done (countedOf g axis d b)) Full
 
 -- what the writer leaves of the bytes t where they hold all cells: those of the box, whose depth is `limit` less d, the first in `slot`, the others
 -- from `fresh` on, the last naming `after` if it is the last of all
-abbrev pub Written : Gyroid → List ℕ → ℕ → Box → ℕ → ℕ → Bool → ℕ → ℕ → List ℕ → Type 0
-Written g t d b slot fresh last after limit u = fresh + leaves (settled g) longest d b ≤ length t / 32 + 1
-    → u ≡ placed t slot fresh (cond last after (fresh + leaves (settled g) longest d b - 1)) (recordsOf g (cells (settled g) longest d (limit - d) b))
+abbrev pub Written : Gyroid → (Box → Axis) → List ℕ → ℕ → Box → ℕ → ℕ → Bool → ℕ → ℕ → List ℕ → Type 0
+Written g axis t d b slot fresh last after limit u = fresh + leaves (settled g) axis d b ≤ length t / 32 + 1
+    → u ≡ placed t slot fresh (cond last after (fresh + leaves (settled g) axis d b - 1)) (recordsOf g (cells (settled g) axis d (limit - d) b))

@@ -3,11 +3,12 @@ use mathlib.Core.Bool.{cond, _||_}
 use Prim.Native.Nat.{ℕ}
 use lib.Dec.{eqb}
 use Rattle.gyroid.specs.declared.Gyroid.{Gyroid}
-use Rattle.tree.specs.Box.{Box, longest, oneCube}
+use Rattle.tree.specs.declared.Axis.{Axis}
+use Rattle.tree.specs.Box.{Box, oneCube}
 use Rattle.walk.specs.declared.Step.{Step}
 use Rattle.walk.specs.Walk.{isSettled}
 use Rattle.walk.specs.FunctionsInUse.{stateAt}
 
 -- with the depth d left: it is a cell, or it is halved on an axis
-unfoldable pub stepAt : Gyroid → ℕ → Box → Step
-stepAt g d b = cond (isSettled (stateAt g b) || eqb d 0 || oneCube b) (Step.Cell (stateAt g b)) (Step.Halves (longest b))
+unfoldable pub stepAt : Gyroid → (Box → Axis) → ℕ → Box → Step
+stepAt g axis d b = cond (isSettled (stateAt g b) || eqb d 0 || oneCube b) (Step.Cell (stateAt g b)) (Step.Halves (axis b))

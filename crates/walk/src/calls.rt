@@ -6,7 +6,9 @@ ghost use lib.ListN.{length};
 ghost use Rattle.tree.specs.Box.{boxFrom};
 ghost use Rattle.walk.specs.Walk.{spans, depths, entryRefusal};
 ghost use Rattle.walk.specs.InUse.{walkNumber, walkTable, Supposed, Demand};
+use crate::TieRule;
 use crate::run::run;
+use crate::ties::ties_by;
 use gyroid::Description;
 use gyroid::Gyroid;
 use limits::refusals::or_else;
@@ -43,12 +45,13 @@ pub fn walk(
     lo: [i64; 3],
     hi: [i64; 3],
     depth: i64,
+    rule: TieRule,
     table: &mut [u8],
 ) -> u32
-    ensures answer { λ r. ⌜ r ≡ walkNumber description lo hi depth (length (now (table .entry))) ⌝ }
-    ensures left { λ _. ⌜ now (table .exit) ≡ walkTable description lo hi depth (now (table .entry)) ⌝ }
-    ensures demand { λ _. ⌜ (Supposed description lo hi depth (length (now (table .entry)))
-        → Demand description (boxFrom lo hi) (natAbs depth) (now (table .exit))) ⌝ }
+    ensures answer { λ r. ⌜ r ≡ walkNumber description lo hi depth rule (length (now (table .entry))) ⌝ }
+    ensures left { λ _. ⌜ now (table .exit) ≡ walkTable description lo hi depth rule (now (table .entry)) ⌝ }
+    ensures demand { λ _. ⌜ (Supposed description lo hi depth rule (length (now (table .entry)))
+        → Demand description (boxFrom lo hi) (natAbs depth) rule (now (table .exit))) ⌝ }
 {
     let made = Gyroid::certified(description);
     let number = entries(made.refusal, lo, hi, depth);
@@ -56,6 +59,8 @@ pub fn walk(
         return number;
     }
     let leaf = made.leaf;
+    let grade = leaf.grade;
+    let ties = ties_by(rule, grade.axis());
     let b = ShiftedBox::of(lo, hi);
-    run(leaf, b, depth as usize, table)
+    run(leaf, b, depth as usize, ties, table)
 }

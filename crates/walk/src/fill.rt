@@ -3,7 +3,7 @@ ghost use mathlib.Core.Path.{_≡_};
 ghost use mathlib.Core.Bool.{cond};
 ghost use Prim.Native.Nat.{_+_, _/_, _≤_, _<_};
 ghost use lib.ListN.{length};
-ghost use Rattle.tree.specs.Box.{Good, boxOf, longest};
+ghost use Rattle.tree.specs.Box.{Good, boxOf, cut};
 ghost use Rattle.tree.specs.Tree.{leaves};
 ghost use Rattle.gyroid.specs.Numbers.{leafAt};
 ghost use Rattle.memory.specs.Memory.{Remembers};
@@ -15,6 +15,7 @@ use crate::Node;
 use crate::Step;
 use crate::visit::number;
 use table::put::put_cell;
+use tree::Axis;
 
 // The slot that a cell names: `after` if it is the last of all, otherwise the one that the next cell goes to.
 fn named(last: bool, fresh: usize, after: usize) -> usize
@@ -28,7 +29,7 @@ fn named(last: bool, fresh: usize, after: usize) -> usize
 
 // The first cell to `slot`, the others to the slots from `fresh` on. The last of them names `after` if it is the last of all (`last`), and
 // otherwise the slot behind them. Full as soon as a cell has no slot. The depth that is left is the falling number; `limit` is what is left at
-// the root of the walk, so that a cell's depth is `limit` less the depth that is left.
+// the root of the walk, so that a cell's depth is `limit` less the depth that is left. `ties` is the axis that ties go to.
 pub fn fill(
     leaf: &[f64; 34],
     keys: &mut [usize; 480],
@@ -41,19 +42,20 @@ pub fn fill(
     last: bool,
     after: usize,
     limit: usize,
+    ties: Axis,
 ) -> Filled
     requires { ⌜ Good (boxOf (n .b)) ⌝ }
     requires { ⌜ depth ≤ limit ⌝ }
     requires { ⌜ limit ≤ 24 ⌝ }
     requires { ⌜ slot < fresh ⌝ }
-    requires { ⌜ fresh + leaves (settled (leafAt (now leaf))) longest depth (boxOf (n .b)) ≤ 8589934592 ⌝ }
+    requires { ⌜ fresh + leaves (settled (leafAt (now leaf))) (cut ties) depth (boxOf (n .b)) ≤ 8589934592 ⌝ }
     requires { ⌜ Remembers (leafAt (now leaf)) (now keys) (now parts) ⌝ }
-    ensures { λ r. ⌜ r ≡ filledOf (leafAt (now (leaf .entry))) depth (boxOf (n .b)) fresh (length (now (t .entry)) / 32) ⌝ }
-    ensures { λ _. ⌜ Written (leafAt (now (leaf .entry))) (now (t .entry)) depth (boxOf (n .b)) slot fresh last after limit (now (t .exit)) ⌝ }
+    ensures { λ r. ⌜ r ≡ filledOf (leafAt (now (leaf .entry))) (cut ties) depth (boxOf (n .b)) fresh (length (now (t .entry)) / 32) ⌝ }
+    ensures { λ _. ⌜ Written (leafAt (now (leaf .entry))) (cut ties) (now (t .entry)) depth (boxOf (n .b)) slot fresh last after limit (now (t .exit)) ⌝ }
     ensures { λ _. ⌜ Remembers (leafAt (now (leaf .entry))) (now (keys .exit)) (now (parts .exit)) ⌝ }
 {
     let b = n.b;
-    match n.look(leaf, keys, parts, depth) {
+    match n.look(leaf, keys, parts, depth, ties) {
         Step::Cell(s) => {
             if t.len() / 32 < fresh {
                 return Filled::Full;
@@ -64,11 +66,13 @@ pub fn fill(
         }
         Step::Halves(a) => {
             let left = depth - 1;
+            let lower = n.lower(a);
+            let upper = n.upper(a);
             let low = fill(
                 leaf,
                 keys,
                 parts,
-                n.lower(a),
+                lower,
                 left,
                 t,
                 slot,
@@ -76,6 +80,7 @@ pub fn fill(
                 false,
                 after,
                 limit,
+                ties,
             );
             let Filled::Done(l) = low else {
                 return Filled::Full;
@@ -85,7 +90,7 @@ pub fn fill(
                 leaf,
                 keys,
                 parts,
-                n.upper(a),
+                upper,
                 left,
                 t,
                 mid,
@@ -93,6 +98,7 @@ pub fn fill(
                 last,
                 after,
                 limit,
+                ties,
             );
             let Filled::Done(h) = high else {
                 return Filled::Full;

@@ -1,5 +1,6 @@
 // The walk over a part box: a box is halved until it is settled, one tick cube, or at the last depth, and its cells are written to a lent
 // table. Here stand the types. `walk` is the public call.
+pub mod ties; // the axis that ties go to
 mod visit; // a box of the tree: what is done at it, and its halves
 mod tally; // what a cell counts, and two halves
 pub mod count; // a whole tree, counted
@@ -11,6 +12,12 @@ use gyroid::State;
 use memory::Places;
 use tree::Axis;
 use tree::ShiftedBox;
+
+// Where spans tie: to the axis of a graded level, which is the default, or to the lowest axis.
+pub enum TieRule {
+    GradeAxis,
+    LowestAxis,
+}
 
 // A box of the tree, and where its sides are looked up.
 pub struct Node {

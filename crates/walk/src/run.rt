@@ -3,7 +3,7 @@ ghost use mathlib.Core.Path.{_≡_};
 ghost use Prim.Native.Nat.{_≤_};
 ghost use lib.ListN.{length};
 ghost use Rattle.gyroid.specs.Numbers.{Lendable};
-ghost use Rattle.tree.specs.Box.{Good, boxOf};
+ghost use Rattle.tree.specs.Box.{Good, boxOf, cut};
 ghost use Rattle.walk.specs.InUse.{roomRefusal, roomTable};
 use crate::Filled;
 use crate::Node;
@@ -13,15 +13,16 @@ use gyroid::lent::numbers_of;
 use memory::Places;
 use table::put::put_head;
 use table::put::zero;
+use tree::Axis;
 use tree::ShiftedBox;
 
 // 0, or 13 where the cells outgrow the table.
-pub fn run(g: Gyroid, b: ShiftedBox, depth: usize, table: &mut [u8]) -> u32
+pub fn run(g: Gyroid, b: ShiftedBox, depth: usize, ties: Axis, table: &mut [u8]) -> u32
     requires { ⌜ Lendable g ⌝ }
     requires { ⌜ Good (boxOf b) ⌝ }
     requires { ⌜ depth ≤ 24 ⌝ }
-    ensures answer { λ r. ⌜ r ≡ roomRefusal g depth (boxOf b) (length (now (table .entry))) ⌝ }
-    ensures left { λ _. ⌜ now (table .exit) ≡ roomTable g depth (boxOf b) (length (now (table .entry))) ⌝ }
+    ensures answer { λ r. ⌜ r ≡ roomRefusal g (cut ties) depth (boxOf b) (length (now (table .entry))) ⌝ }
+    ensures left { λ _. ⌜ now (table .exit) ≡ roomTable g (cut ties) depth (boxOf b) (length (now (table .entry))) ⌝ }
 {
     let leaf = numbers_of(g);
     let mut keys = [0usize; 480];
@@ -40,6 +41,7 @@ pub fn run(g: Gyroid, b: ShiftedBox, depth: usize, table: &mut [u8]) -> u32
         true,
         0,
         depth,
+        ties,
     );
     let Filled::Done(n) = answer else {
         zero(table, 0);

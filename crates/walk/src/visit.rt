@@ -3,7 +3,7 @@ ghost use mathlib.Core.Path.{_≡_};
 ghost use mathlib.Core.Bool.{cond, _||_};
 ghost use lib.Dec.{eqb};
 ghost use Rattle.gyroid.specs.Residual.{stateNumber};
-ghost use Rattle.tree.specs.Box.{Good, boxOf, lower, upper, oneCube, volume};
+ghost use Rattle.tree.specs.Box.{Good, boxOf, cut, lower, upper, oneCube, volume};
 ghost use Rattle.gyroid.specs.Numbers.{leafAt};
 ghost use Rattle.memory.specs.Memory.{Remembers};
 ghost use Rattle.walk.specs.Walk.{isSettled, isInside};
@@ -40,10 +40,11 @@ impl Node {
         keys: &mut [usize; 480],
         parts: &mut [f64; 1984],
         depth: usize,
+        ties: Axis,
     ) -> Step
         requires { ⌜ Good (boxOf (self .b)) ⌝ }
         requires { ⌜ Remembers (leafAt (now leaf)) (now keys) (now parts) ⌝ }
-        ensures { λ r. ⌜ r ≡ stepAt (leafAt (now (leaf .entry))) depth (boxOf (self .b)) ⌝ }
+        ensures { λ r. ⌜ r ≡ stepAt (leafAt (now (leaf .entry))) (cut ties) depth (boxOf (self .b)) ⌝ }
         ensures { λ _. ⌜ Remembers (leafAt (now (leaf .entry))) (now (keys .exit)) (now (parts .exit)) ⌝ }
     {
         let b = self.b;
@@ -52,7 +53,7 @@ impl Node {
         if stops(s, depth, b) {
             return Step::Cell(s);
         }
-        Step::Halves(b.longest())
+        Step::Halves(b.cut(ties))
     }
 
     pub fn lower(self, a: Axis) -> Node

@@ -1,5 +1,5 @@
-//! Document 01's table of refusals, read once more, with the kind that document 02 admits: which number it gives a request, and
-//! whether the original lacks it.
+//! Document 01's table of refusals, read once more, with the kind and the tie rules that document 02 admits: which
+//! number it gives a request, and whether the original lacks it.
 
 use crate::entries::*;
 use request::{Call, Description, Request, Shape};
@@ -20,6 +20,11 @@ fn limited(request: &Request) -> bool {
     outside(&request.description, entries)
         || request.whole().iter().any(|n| n.abs_diff(0) > TICKS as u64)
         || request.call.shape() == Shape::WorldPiece && request.piece > 2
+}
+
+/// A walk's rule that is none, which is tested before all that the documents refuse.
+fn no_rule(request: &Request) -> bool {
+    request.call == Call::Walk && ![GRADE_AXIS, LOWEST_AXIS].contains(&request.rule)
 }
 
 /// The sizes of the anchors' difference on each axis.
@@ -105,7 +110,7 @@ fn walk(request: &Request) -> Option<u32> {
 
 /// The number by which document 01 refuses a request; none where that is 13.
 pub fn refusal(request: &Request) -> Option<u32> {
-    if limited(request) {
+    if no_rule(request) || limited(request) {
         return Some(1);
     }
     if request.call == Call::GradeRange {
@@ -213,7 +218,10 @@ mod tests {
     fn walks() {
         let ask = |d, whole, depth| {
             let request = Request { whole, depth, ..Request::new(Call::Walk, d) };
+            let by = |rule| refusal(&Request { rule, ..request });
             assert_eq!(added(&request), None);
+            assert_eq!(by(LOWEST_AXIS), by(GRADE_AXIS));
+            assert_eq!([2, 3, 1 << 31, u32::MAX].map(by), [Some(1); 4]);
             refusal(&request)
         };
         let (cube, flat) = ([-1, -1, -1, 0, 0, 0], [0, 0, 0, 1, 1, 0]);

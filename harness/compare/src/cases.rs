@@ -2,7 +2,7 @@
 
 use crate::chance::Chance;
 use crate::entries::*;
-use crate::{boxes, descriptions, specials, walks};
+use crate::{boxes, descriptions, specials, ties, walks};
 use request::{Call, Description, Request, Shape};
 
 /// A box; for the jets half of them small, since a wide one has none.
@@ -29,7 +29,7 @@ pub fn about(c: &mut Chance, call: Call, d: Description) -> Request {
         }
         Shape::Corners => request.doubles = boxes::corners(c, &d),
         Shape::Point => request.doubles[..3].copy_from_slice(&boxes::point(c, &d)),
-        Shape::Walk => walks::set(c, &mut request),
+        Shape::Walk => walks::set_by_any_rule(c, &mut request),
     }
     request
 }
@@ -168,30 +168,60 @@ fn pieces(call: Call, out: &mut Vec<Request>) {
     }
 }
 
-/// Walks of a box with room to halve: depths and tables at their limits, and every pair of the refusal table's rows broken of which
-/// one at least is the walk's own; one that no table holds, and the deepest cells.
+/// A walk of a box with room to halve.
+fn quiet_walk(call: Call, d: Description) -> Request {
+    let mut request = quiet(call, d);
+    request.whole[3..].copy_from_slice(&[9, 8, 9]);
+    request
+}
+
+/// A walk with one row more of the refusal table broken: each of the description's, and each of the walk's own.
+fn broken_too(c: &mut Chance, request: &Request, out: &mut Vec<Request>) {
+    out.extend(descriptions::ROWS.map(|row| {
+        let mut both = *request;
+        row(c, &mut both.description);
+        both
+    }));
+    out.extend(walks::ROWS.map(|row| {
+        let mut both = *request;
+        row(&mut both);
+        both
+    }));
+}
+
+/// Walks of a box with room to halve: depths and tables at their limits, and every pair of the refusal table's rows
+/// broken of which one at least is the walk's own; one that no table holds, the deepest cells, and boxes whose spans
+/// tie.
 fn walks_of(call: Call, out: &mut Vec<Request>) {
     out.push(walks::hopeless());
     walks::deep(out);
+    out.extend(ties::all());
     let c = &mut Chance::new(0, call as u64, 0);
     for base in bases() {
-        let mut quiet = quiet(call, base);
-        quiet.whole[3..].copy_from_slice(&[9, 8, 9]);
+        let quiet = quiet_walk(call, base);
         walks::systematic(&quiet, out);
         for own in walks::ROWS {
             let mut request = quiet;
             own(&mut request);
-            let rows = descriptions::ROWS.map(|row| {
-                let mut both = request;
-                row(c, &mut both.description);
-                both
-            });
-            let pairs = walks::ROWS.map(|other| {
-                let mut both = request;
-                other(&mut both);
-                both
-            });
-            out.extend(rows.into_iter().chain(pairs));
+            broken_too(c, &request, out);
+        }
+    }
+}
+
+/// Every walk so far by the lowest-axis rule too.
+fn by_either_rule(out: &mut Vec<Request>) {
+    let lowest: Vec<Request> = out.iter().map(|request| Request { rule: LOWEST_AXIS, ..*request }).collect();
+    out.extend(lowest);
+}
+
+/// Walks by rules that are none, and every row of the refusal table broken beside.
+fn by_no_rule(call: Call, out: &mut Vec<Request>) {
+    let c = &mut Chance::new(0, call as u64, 1);
+    for base in bases() {
+        for rule in walks::NO_RULES {
+            let request = Request { rule, ..quiet_walk(call, base) };
+            out.push(request);
+            broken_too(c, &request, out);
         }
     }
 }
@@ -205,6 +235,8 @@ pub fn systematic(call: Call) -> Vec<Request> {
     }
     if call.shape() == Shape::Walk {
         walks_of(call, &mut out);
+        by_either_rule(&mut out);
+        by_no_rule(call, &mut out);
     }
     if matches!(call.shape(), Shape::World | Shape::WorldPiece) {
         beside_zero(call, &mut out);

@@ -21,6 +21,10 @@ pub const CONSTANT: i64 = 0;
 pub const LINEAR: i64 = 1;
 pub const DISTANCE: i64 = 2;
 
+/// The tie rules: ties go to the grade axis, which is the default, or to the lowest axis.
+pub const GRADE_AXIS: u32 = 0;
+pub const LOWEST_AXIS: u32 = 1;
+
 /// Coordinates, period and frame entries are at most this in size.
 pub const TICKS: i64 = 1 << 20;
 /// Levels, in counts.

@@ -2,7 +2,7 @@
 //! about their cells, and with reports about the room that they want.
 
 use crate::chance::Chance;
-use crate::entries::TICKS;
+use crate::entries::{LOWEST_AXIS, TICKS};
 use crate::layer_cases::special_words;
 use crate::layers::{Cell, head};
 use crate::tables::{self, STATE, placed};
@@ -16,7 +16,7 @@ const MANY: usize = 400;
 fn walked(c: &mut Chance) -> Vec<u8> {
     let mut request = Request::new(Call::Walk, descriptions::accepted(c));
     request.whole = walks::bounds(c, &request);
-    request.depth = c.between(0, 7);
+    (request.depth, request.rule) = (c.between(0, 7), LOWEST_AXIS);
     request.table = SLOT * (128 + 1);
     let Answer::Walked(mut walked) = ours::answer(&request) else { unreachable!("a walk's answer") };
     let cells = head(&walked.table).map_or(0, |[_, cells]| cells);

@@ -12,15 +12,15 @@ pub const MARGIN: usize = 61;
 /// The lengths of the description and of the bounds.
 const LENGTHS: [[usize; 2]; 9] = [[18, 6], [17, 6], [19, 6], [0, 6], [18, 0], [18, 5], [18, 7], [17, 5], [19, 7]];
 
-/// Lends the first entries of the description and of the bounds, and the table amid its margins.
-fn lend(request: &Request, [length, lent]: [usize; 2], around: &mut [u8]) -> u32 {
+/// Lends the first entries of the description and of the bounds, and a table; the status.
+pub fn lend(request: &Request, [length, lent]: [usize; 2], table: &mut [u8]) -> u32 {
     let more = |row: &[i64]| row.iter().map(|n| *n as u64).chain([0]).collect::<Vec<_>>();
     let mut d = Placed::new(&more(&request.description), 1);
     let mut bounds = Placed::new(&more(&request.whole), 1);
-    let table = &mut around[MARGIN..][..request.table];
+    let (depth, rule) = (request.depth, request.rule);
     let (at, room) = (if table.is_empty() { null_mut() } else { table.as_mut_ptr() }, table.len());
     // Every pointer is of as many entries as the length beside it says.
-    unsafe { raw::gyroid_walk(d.first(length), length, bounds.first(lent), lent, request.depth, at, room) }
+    unsafe { raw::gyroid_walk(d.first(length), length, bounds.first(lent), lent, depth, rule, at, room) }
 }
 
 /// Bytes amid their margins.
@@ -41,7 +41,7 @@ fn expected(lengths: [usize; 2], walked: Walked) -> Walked {
 
 fn wrong(request: &Request, lengths: [usize; 2], walked: Walked) -> Option<String> {
     let mut around = amid(&unwritten(request.table));
-    let status = lend(request, lengths, &mut around);
+    let status = lend(request, lengths, &mut around[MARGIN..][..request.table]);
     let expected = expected(lengths, walked);
     let left = around == amid(&expected.table);
     (status != expected.status || !left).then(|| {

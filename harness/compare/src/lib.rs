@@ -28,6 +28,7 @@ pub mod specials;
 pub mod stack;
 pub mod tables;
 pub mod tally;
+pub mod ties;
 pub mod walk;
 pub mod walk_list;
 pub mod walks;

@@ -1,7 +1,7 @@
 //! Our answer to a request, by the bindings that a service links.
 
-use crate::lent_report;
-use gyroid_cells::{Bounds, Description, Interval, Jet, Piece, Refusal};
+use crate::{lent_report, lent_table};
+use gyroid_cells::{Bounds, Description, Interval, Jet, Piece, Refusal, TieRule};
 use request::{Answer, Call, LayerRequest, Reported, Request, Value, Walked, unwritten};
 
 /// The row of three intervals that starts at a double.
@@ -43,10 +43,14 @@ fn planes(d: &Description) -> Result<Option<Answer>, Refusal> {
         .map(|planes| Answer::Found(vec![Value::Number(planes.axis as i64), whole(planes.from), whole(planes.to)])))
 }
 
+/// A rule that is none has no name in the bindings either.
 fn walk(request: &Request, d: &Description, bounds: Bounds) -> Answer {
     let mut table = unwritten(request.table);
-    let refusal = gyroid_cells::walk(d, bounds, request.depth, &mut table).err();
-    Answer::Walked(Walked { status: refusal.map_or(0, Refusal::number), table })
+    let status = match TieRule::try_from(request.rule) {
+        Ok(rule) => gyroid_cells::walk(d, bounds, request.depth, rule, &mut table).err().map_or(0, Refusal::number),
+        Err(_) => lent_table::lend(request, [18, 6], &mut table),
+    };
+    Answer::Walked(Walked { status, table })
 }
 
 fn asked(request: &Request) -> Result<Option<Answer>, Refusal> {

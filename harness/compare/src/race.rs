@@ -1,5 +1,5 @@
-//! The walk's speed over six boxes: ours, which makes one pass, the one in two passes, and the plain one over the
-//! original's box state, in turns.
+//! The walk's speed over seven boxes: ours, which makes one pass, the one in two passes, and the plain one over the
+//! original's box state, in turns. A box with a graded level is walked by either tie rule.
 
 use crate::entries::*;
 use crate::walk;
@@ -14,13 +14,13 @@ const ROUNDS: usize = 5;
 
 /// A walk to be timed.
 pub struct Case {
-    pub name: &'static str,
+    pub name: String,
     pub request: Request,
     /// How often a side makes the walk in one round: many times where one walk is too short for the clock.
     pub repeated: u32,
 }
 
-/// A walk of a network at a constant level, with a table of so many slots.
+/// A walk of a network at a constant level by the default rule, with a table of so many slots.
 fn constant(whole: [i64; 6], depth: i64, slots: usize) -> Request {
     Request { whole, depth, table: SLOT * slots, ..Request::new(Call::Walk, PLAIN) }
 }
@@ -30,12 +30,17 @@ fn core() -> Request {
     constant([0, 0, 0, 20480, 20480, 20480], 19, 1 << 18)
 }
 
-/// The same on a ramp along all of x; more than 100,000 cells too.
+/// The same on a ramp along all of an axis; more than 100,000 cells too.
+fn graded(axis: usize) -> Request {
+    let mut graded = core();
+    let d = &mut graded.description;
+    (d[LEVEL_KIND], d[TO + axis], d[START], d[END]) = (LINEAR, 20480, -RAMP, RAMP);
+    graded
+}
+
+/// The core that is graded along x: its cells are the same by either rule.
 pub fn linear() -> Request {
-    let mut linear = core();
-    let d = &mut linear.description;
-    (d[LEVEL_KIND], d[TO], d[START], d[END]) = (LINEAR, 20480, -RAMP, RAMP);
-    linear
+    graded(0)
 }
 
 /// A box whose spans are no powers of two, nor is its period; its ramp along z starts below it and ends inside it.
@@ -47,26 +52,31 @@ fn odd() -> Request {
     odd
 }
 
-/// Two cores of more than 100,000 cells, then boxes of other shapes, the last of which is one cell.
-pub fn cases() -> [Case; 6] {
-    let once = |name, request| Case { name, request, repeated: 1 };
+/// A walk that is timed by the default rule, and where its level is graded by the lowest-axis rule as well.
+fn timed_once(name: &str, request: Request) -> Vec<Case> {
+    let case = |name: String, rule| Case { name, request: Request { rule, ..request }, repeated: 1 };
+    let mut cases = vec![case(name.into(), GRADE_AXIS)];
+    if request.description[LEVEL_KIND] == LINEAR {
+        cases.push(case(format!("{name}, lowest"), LOWEST_AXIS));
+    }
+    cases
+}
+
+/// Three cores of more than 100,000 cells, then boxes of other shapes, the last of which is one cell.
+pub fn cases() -> Vec<Case> {
     let plate = constant([0, 0, 0, 81920, 81920, 640], 18, 1 << 17);
     let needle = constant([0, 0, 0, 64, 64, 1_000_000], 17, 1 << 13);
     let single = constant([0, 0, 0, 512, 512, 512], 0, 4);
-    [
-        once("constant", core()),
-        once("linear", linear()),
-        once("plate", plate),
-        once("needle", needle),
-        once("odd", odd()),
-        Case { name: "single", request: single, repeated: 2000 },
-    ]
+    let cores = [("constant", core()), ("linear", linear()), ("upright", graded(2))];
+    let others = [("plate", plate), ("needle", needle), ("odd", odd())];
+    let once = cores.into_iter().chain(others).flat_map(|(name, request)| timed_once(name, request));
+    once.chain([Case { name: "single".into(), request: single, repeated: 2000 }]).collect()
 }
 
 /// A walk that leaves a table and answers its status.
 pub type Walk = fn(&Request, &mut [u8]) -> u32;
 /// The same as a function of C.
-type RawWalk = unsafe extern "C" fn(*const i64, usize, *const i64, usize, i64, *mut u8, usize) -> u32;
+type RawWalk = unsafe extern "C" fn(*const i64, usize, *const i64, usize, i64, u32, *mut u8, usize) -> u32;
 
 /// Cells, and the median time of each side.
 pub struct Race {
@@ -85,6 +95,7 @@ unsafe extern "C" {
         bounds: *const i64,
         bounds_length: usize,
         depth: i64,
+        rule: u32,
         out: *mut u8,
         out_length: usize,
     ) -> u32;
@@ -92,9 +103,10 @@ unsafe extern "C" {
 
 /// A walk as a program of C calls it; the status.
 fn lent(walk: RawWalk, request: &Request, table: &mut [u8]) -> u32 {
-    let (d, bounds) = (&request.description, &request.whole);
+    let Request { description: d, whole: bounds, depth, rule, .. } = request;
+    let (at, room) = (table.as_mut_ptr(), table.len());
     // The slices are alive for the call, and the table is lent to it alone.
-    unsafe { walk(d.as_ptr(), d.len(), bounds.as_ptr(), bounds.len(), request.depth, table.as_mut_ptr(), table.len()) }
+    unsafe { walk(d.as_ptr(), d.len(), bounds.as_ptr(), bounds.len(), *depth, *rule, at, room) }
 }
 
 /// Our walk.
@@ -110,7 +122,7 @@ fn twice(request: &Request, table: &mut [u8]) -> u32 {
 /// The original's, from the description on, as ours.
 fn original(request: &Request, table: &mut [u8]) -> u32 {
     let leaf = Leaf::new(&request.description);
-    leaf.map_or(raw::NONE, |leaf| walk::fill(&leaf, &request.whole, request.depth, table))
+    leaf.map_or(raw::NONE, |leaf| walk::fill(&leaf, request, table))
 }
 
 /// The time of one walk: that of all the walks of a round, divided by their number.

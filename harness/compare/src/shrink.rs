@@ -1,6 +1,6 @@
 //! The smallest request that still shows a thing: fewest entries that are not zero, then the smallest ones.
 
-use crate::entries::{FROM, TO};
+use crate::entries::{FROM, GRADE_AXIS, LOWEST_AXIS, TO};
 use crate::walk;
 use request::{LayerRequest, Request};
 
@@ -41,11 +41,21 @@ fn double_size(v: f64) -> u128 {
     2 * u128::from(1 + places + exponent.unsigned_abs()) + sign
 }
 
+/// The lowest-axis rule, which does not look at the description, is plainer than the other, and either than none.
+fn rule_size(rule: u32) -> (bool, u128) {
+    match rule {
+        LOWEST_AXIS => whole_size(0),
+        GRADE_AXIS => whole_size(1),
+        other => whole_size(other.into()),
+    }
+}
+
 impl Shrink for Request {
     fn size(&self) -> Size {
         let whole = self.description.iter().chain(self.whole()).map(|n| whole_size(*n));
         let doubles = self.doubles().iter().map(|v| (*v != 0.0, double_size(*v)));
         let last = [self.piece.into(), self.depth, self.table as i64].map(whole_size);
+        let last = last.into_iter().chain([rule_size(self.rule)]);
         total(whole.chain(doubles).chain(last))
     }
 
@@ -131,10 +141,12 @@ const WHOLE: usize = 18;
 const DOUBLES: usize = WHOLE + 6;
 const PIECE: usize = DOUBLES + 18;
 const DEPTH: usize = PIECE + 1;
-const TABLE: usize = DEPTH + 1;
+const RULE: usize = DEPTH + 1;
+const TABLE: usize = RULE + 1;
 const ANCHORS: usize = TABLE + 1;
 const BOUNDS: usize = ANCHORS + 3;
-const INTERVALS: usize = BOUNDS + 3;
+const LONGEST: usize = BOUNDS + 3;
+const INTERVALS: usize = LONGEST + 1;
 const PLACES: usize = INTERVALS + 9;
 
 fn with(request: &Request, edit: impl FnOnce(&mut Request)) -> Request {
@@ -149,7 +161,21 @@ fn moved(a: &mut i64, b: &mut i64) {
     *a = 0;
 }
 
-/// Requests that differ from this one in one place.
+/// The longest spans made shorter together, so that they tie as before.
+fn shorter(r: &Request) -> Vec<Request> {
+    let spans = [0, 1, 2].map(|i| r.whole[3 + i].saturating_sub(r.whole[i]));
+    let longest = spans.into_iter().fold(0, i64::max);
+    let with_span = |span: i64| {
+        let mut out = *r;
+        for i in (0..3).filter(|i| spans[*i] == longest) {
+            out.whole[3 + i] = r.whole[i].saturating_add(span);
+        }
+        out
+    };
+    smaller(longest).into_iter().map(with_span).collect()
+}
+
+/// Requests that differ from this one in one place, or in all that tie.
 fn variants(r: &Request, place: usize) -> Vec<Request> {
     match place {
         0..WHOLE => smaller(r.description[place]).into_iter().map(|n| with(r, |r| r.description[place] = n)).collect(),
@@ -162,6 +188,7 @@ fn variants(r: &Request, place: usize) -> Vec<Request> {
             .collect(),
         PIECE => (0..r.piece.min(4)).map(|n| with(r, |r| r.piece = n)).collect(),
         DEPTH => smaller(r.depth).into_iter().map(|n| with(r, |r| r.depth = n)).collect(),
+        RULE => [LOWEST_AXIS, GRADE_AXIS, 2].map(|rule| with(r, |r| r.rule = rule)).to_vec(),
         TABLE => {
             let lengths = smaller(r.table as i64).into_iter().filter_map(|n| usize::try_from(n).ok());
             lengths.map(|n| with(r, |r| r.table = n)).collect()
@@ -174,7 +201,7 @@ fn variants(r: &Request, place: usize) -> Vec<Request> {
             };
             vec![with(r, anchors)]
         }
-        BOUNDS..INTERVALS => {
+        BOUNDS..LONGEST => {
             let i = place - BOUNDS;
             let bounds = |r: &mut Request| {
                 let (low, high) = r.whole.split_at_mut(3);
@@ -182,6 +209,7 @@ fn variants(r: &Request, place: usize) -> Vec<Request> {
             };
             vec![with(r, bounds)]
         }
+        LONGEST => shorter(r),
         _ => {
             let i = 2 * (place - INTERVALS);
             [0.0, 1.0, r.doubles[i], r.doubles[i + 1]].map(|v| with(r, |r| r.doubles[i..i + 2].fill(v))).to_vec()
@@ -229,6 +257,33 @@ mod tests {
         assert_eq!((least.low, least.high, least.report), (0, 1, LAYER));
         let cube = (1, [0, 0, 0, 1, 1, 1]);
         assert_eq!(least.table, tables::bytes(&tables::chained(&[cube; 3])));
+    }
+
+    /// The lowest-axis rule where either shows the thing, and the least number where a rule that is none does.
+    #[test]
+    fn finds_the_plainest_rule() {
+        let request: Request = "walk 10240 0 0 0 0 0 0 0 0 0 0 1 0 0 0 0 0 0 0 0 0 5 5 5 3 0 64".parse().unwrap();
+        let least = |rule, still: fn(&Request) -> bool| shrink(Request { rule, ..request }, still).rule;
+        let accepted = |r: &Request| added::refusal(r).is_none();
+        assert_eq!(least(GRADE_AXIS, accepted), LOWEST_AXIS);
+        assert_eq!(least(u32::MAX, |r| r.description[0] == 10240), LOWEST_AXIS);
+        assert_eq!(least(GRADE_AXIS, |r| r.rule != LOWEST_AXIS), GRADE_AXIS);
+        assert_eq!(least(u32::MAX, |r| added::refusal(r) == Some(1) && r.whole == [0, 0, 0, 5, 5, 5]), 2);
+    }
+
+    /// The two rules cut a box otherwise where the grade axis ties, so the spans that tie grow smaller together.
+    #[test]
+    fn finds_the_least_tie() {
+        if !reference::AT_HAND {
+            return;
+        }
+        let line = "walk 10240 0 1 7 7 -5120 7 7 5120 -250 250 1 0 0 0 0 0 0 -700 -700 -700 700 700 700 5 0 65536";
+        let otherwise = |r: &Request| {
+            let answer = |rule| walk::answer(&Request { rule, ..*r });
+            answer(GRADE_AXIS).refused().is_none() && !answer(GRADE_AXIS).same(&answer(LOWEST_AXIS))
+        };
+        let least = shrink(line.parse().unwrap(), otherwise).to_string();
+        assert_eq!(least, "walk 1 0 1 0 0 0 0 0 10 0 1 1 0 0 0 0 0 0 0 0 0 1 2 2 1 1 96");
     }
 
     #[test]

@@ -3,8 +3,9 @@
 //! number of halvings that led to it.
 
 use crate::added;
+use crate::entries::*;
 use reference::Leaf;
-use request::{Answer, Request, SLOT, Walked, unwritten};
+use request::{Answer, Description, Request, SLOT, Walked, unwritten};
 
 /// A box of whole ticks: three lows, then three highs.
 pub type Bounds = [i64; 6];
@@ -21,35 +22,60 @@ pub fn volume(bounds: &Bounds) -> u64 {
     spans(bounds).map(i64::unsigned_abs).iter().product()
 }
 
-/// "Halve the longest span, ties to the lowest axis, at low + span div 2; lower half first." A tick cube has no halves.
-fn halves(bounds: &Bounds) -> Option<[Bounds; 2]> {
+/// "The axis of a level of kind 1 with unequal ends": the one on which its anchors differ. No other level has one.
+fn grade_axis(d: &Description) -> Option<usize> {
+    let graded = d[LEVEL_KIND] == LINEAR && d[START] != d[END];
+    (0..3).find(|axis| graded && d[FROM + axis] != d[TO + axis])
+}
+
+/// The axis that a walk by this rule takes where it is among those that tie; "otherwise the lowest".
+fn preferred(request: &Request) -> Option<usize> {
+    match request.rule {
+        GRADE_AXIS => grade_axis(&request.description),
+        LOWEST_AXIS => None,
+        other => unreachable!("rule {other} is refused"),
+    }
+}
+
+/// "Halve the longest span .. at low + span div 2; lower half first." Of the axes that have it the preferred one is
+/// taken if it is among them, otherwise the lowest. A tick cube has no halves.
+fn halves(bounds: &Bounds, preferred: Option<usize>) -> Option<[Bounds; 2]> {
     let spans = spans(bounds);
     let longest = *spans.iter().max()?;
-    let axis = spans.iter().position(|span| *span == longest)?;
+    let axis = preferred.into_iter().chain(0..3).find(|axis| spans[*axis] == longest)?;
     let [mut lower, mut upper] = [*bounds; 2];
     upper[axis] += longest / 2;
     lower[3 + axis] = upper[axis];
     (longest > 1).then_some([lower, upper])
 }
 
-/// Gives every cell of a box to `cell`, with its state and its depth, in walk order, until that answers false, and then
-/// looks at no further box. The box itself stands at `depth`; a half stands at one more than its box, and none at more
-/// than `limit`. Answers how many boxes were evaluated; nothing where it was stopped.
-fn walk(
-    leaf: &Leaf,
-    bounds: &Bounds,
-    depth: u8,
+/// What all boxes of a walk share.
+struct Walk<'a> {
+    leaf: &'a Leaf,
+    preferred: Option<usize>,
+    /// No box stands at a greater depth.
     limit: i64,
-    cell: &mut impl FnMut(u8, u8, &Bounds) -> bool,
-) -> Option<u32> {
-    let state = leaf.state(bounds) as u8;
-    let halves = if state == UNSETTLED && i64::from(depth) < limit { halves(bounds) } else { None };
-    match halves {
-        Some([lower, upper]) => {
-            let lower = walk(leaf, &lower, depth + 1, limit, cell)?;
-            Some(1 + lower + walk(leaf, &upper, depth + 1, limit, cell)?)
+}
+
+impl<'a> Walk<'a> {
+    fn new(leaf: &'a Leaf, request: &Request) -> Self {
+        Self { leaf, preferred: preferred(request), limit: request.depth }
+    }
+
+    /// Gives every cell of a box to `cell`, with its state and its depth, in walk order, until that answers false, and
+    /// then looks at no further box. The box itself stands at `depth`, and a half at one more than its box. Answers how
+    /// many boxes were evaluated; nothing where it was stopped.
+    fn cells(&self, bounds: &Bounds, depth: u8, cell: &mut impl FnMut(u8, u8, &Bounds) -> bool) -> Option<u32> {
+        let state = self.leaf.state(bounds) as u8;
+        let deeper = state == UNSETTLED && i64::from(depth) < self.limit;
+        let halves = if deeper { halves(bounds, self.preferred) } else { None };
+        match halves {
+            Some([lower, upper]) => {
+                let lower = self.cells(&lower, depth + 1, cell)?;
+                Some(1 + lower + self.cells(&upper, depth + 1, cell)?)
+            }
+            None => cell(state, depth, bounds).then_some(1),
         }
-        None => cell(state, depth, bounds).then_some(1),
     }
 }
 
@@ -71,10 +97,10 @@ fn put_cell(table: &mut [u8], slot: u32, state: u8, depth: u8, bounds: &Bounds) 
 
 /// Walks an accepted box and leaves its table; the status: 0, or 13 where the room is too small. "Let the walk write as it
 /// goes and zero the whole table when the cells outgrow it".
-pub fn fill(leaf: &Leaf, bounds: &Bounds, depth: i64, table: &mut [u8]) -> u32 {
+pub fn fill(leaf: &Leaf, request: &Request, table: &mut [u8]) -> u32 {
     table.fill(0);
     let (mut cells, mut solid) = (0_u32, 0);
-    let evaluated = walk(leaf, bounds, 0, depth, &mut |state, depth, bounds| {
+    let evaluated = Walk::new(leaf, request).cells(&request.whole, 0, &mut |state, depth, bounds| {
         cells += 1;
         solid += if state == INSIDE { volume(bounds) } else { 0 };
         put_cell(table, cells, state, depth, bounds)
@@ -86,7 +112,7 @@ pub fn fill(leaf: &Leaf, bounds: &Bounds, depth: i64, table: &mut [u8]) -> u32 {
     // No cell follows the last.
     put(table, cells as usize * SLOT, [0_u32.to_le_bytes()]);
     put(table, 0, [1, cells, evaluated].map(u32::to_le_bytes));
-    put(table, 12, [solid, volume(bounds) - solid].map(u64::to_le_bytes));
+    put(table, 12, [solid, volume(&request.whole) - solid].map(u64::to_le_bytes));
     0
 }
 
@@ -96,11 +122,17 @@ pub fn cells(request: &Request) -> Option<u32> {
         return None;
     }
     let mut cells = 0;
-    walk(&Leaf::new(&request.description)?, &request.whole, 0, request.depth, &mut |_, _, _| {
+    let leaf = Leaf::new(&request.description)?;
+    Walk::new(&leaf, request).cells(&request.whole, 0, &mut |_, _, _| {
         cells += 1;
         true
     })?;
     Some(cells)
+}
+
+/// The bytes of a table that a walk's cells want; those of one cell where it is refused before it is counted.
+pub fn room(request: &Request) -> usize {
+    (cells(request).unwrap_or(1) as usize + 1) * SLOT
 }
 
 /// No walk of this box to this depth has more cells; one of a refused depth has none.
@@ -119,7 +151,7 @@ pub fn answer(request: &Request) -> Answer {
     let status = match added::refusal(request) {
         Some(number) => number,
         None => match Leaf::new(&request.description) {
-            Some(leaf) => fill(&leaf, &request.whole, request.depth, &mut table),
+            Some(leaf) => fill(&leaf, request, &mut table),
             None => return Answer::Unavailable,
         },
     };
@@ -142,7 +174,7 @@ mod tests {
     }
 
     fn asked(depth: i64, length: usize) -> Walked {
-        walked(&format!("{LISTING} {depth} {length}"))
+        walked(&format!("{LISTING} {depth} {LOWEST_AXIS} {length}"))
     }
 
     #[test]
@@ -173,13 +205,25 @@ mod tests {
         assert_eq!(asked(25, 63), Walked { status: 12, table: unwritten(63) });
     }
 
+    /// The program `cells` names the lowest-axis rule; a constant level has no grade axis, so the default one says the
+    /// same.
+    #[test]
+    fn the_listing_by_either_rule() {
+        assert_eq!(walked(&format!("{LISTING} 1 2 96")), Walked { status: 1, table: unwritten(96) });
+        if !reference::AT_HAND {
+            return;
+        }
+        let said = [LOWEST_AXIS, GRADE_AXIS].map(|rule| walked(&format!("{LISTING} 1 {rule} 96")));
+        assert_eq!(said[0], said[1]);
+    }
+
     /// At the first cell without a slot the walk stops: no further cell is come to, of 2^24 that are there.
     #[test]
     fn stops_where_the_table_is_full() {
         let request = walks::hopeless();
         let Some(leaf) = Leaf::new(&request.description) else { return };
         let mut come_to = 0;
-        let evaluated = walk(&leaf, &request.whole, 0, request.depth, &mut |_, _, _| {
+        let evaluated = Walk::new(&leaf, &request).cells(&request.whole, 0, &mut |_, _, _| {
             come_to += 1;
             come_to < 100
         });
@@ -190,7 +234,7 @@ mod tests {
     /// original.
     #[test]
     fn a_description_beyond_the_limits_is_refused_before_the_original_sees_it() {
-        let line = format!("walk 1 0 1 0 {0} 0 {0} -{0} 0 0 1 1 0 0 0 0 0 0 0 0 0 1 1 1 0 64", i64::MAX);
+        let line = format!("walk 1 0 1 0 {0} 0 {0} -{0} 0 0 1 1 0 0 0 0 0 0 0 0 0 1 1 1 0 1 64", i64::MAX);
         let request: Request = line.parse().unwrap();
         let made = std::panic::catch_unwind(|| Leaf::new(&request.description).is_some());
         assert_eq!(made.is_err(), reference::AT_HAND);
@@ -199,13 +243,52 @@ mod tests {
 
     #[test]
     fn halves_of_the_longest_span_at_its_floor() {
-        let at = |bounds: Bounds| halves(&bounds).map(|[lower, upper]| (lower[3..].to_vec(), upper[..3].to_vec()));
+        let at =
+            |bounds: Bounds| halves(&bounds, None).map(|[lower, upper]| (lower[3..].to_vec(), upper[..3].to_vec()));
         assert_eq!(at([0, 0, 0, 1, 1, 1]), None);
         assert_eq!(at([0, 0, 0, 1, 1, 2]), Some((vec![1, 1, 1], vec![0, 0, 1])));
         assert_eq!(at([0, 0, 0, 4, 5, 5]), Some((vec![4, 2, 5], vec![0, 2, 0])));
         assert_eq!(at([0, 0, 0, 5, 5, 5]), Some((vec![2, 5, 5], vec![2, 0, 0])));
         // −3 + 1, where (−3 + 0) div 2 would be −1.
         assert_eq!(at([-3, 0, 0, 0, 1, 1]), Some((vec![-2, 1, 1], vec![-2, 0, 0])));
+    }
+
+    /// The axis across which a box of these spans is halved.
+    fn axis(spans: [i64; 3], preferred: Option<usize>) -> Option<usize> {
+        let [x, y, z] = spans;
+        let [lower, upper] = halves(&[0, 0, 0, x, y, z], preferred)?;
+        let across: Vec<usize> = (0..3).filter(|axis| upper[*axis] != 0).collect();
+        assert_eq!(lower[3 + across[0]], upper[across[0]]);
+        (across.len() == 1).then_some(across[0])
+    }
+
+    #[test]
+    fn ties_go_to_the_preferred_axis_if_it_is_among_them() {
+        let each = [None, Some(0), Some(1), Some(2)];
+        let axes = |spans| each.map(|preferred| axis(spans, preferred).unwrap());
+        assert_eq!(axes([8, 8, 8]), [0, 0, 1, 2]);
+        assert_eq!(axes([8, 8, 7]), [0, 0, 1, 0]);
+        assert_eq!(axes([8, 7, 8]), [0, 0, 0, 2]);
+        assert_eq!(axes([7, 8, 8]), [1, 1, 1, 2]);
+        for (longest, spans) in [[9, 8, 8], [8, 9, 8], [8, 8, 9]].into_iter().enumerate() {
+            assert_eq!(axes(spans), [longest; 4]);
+        }
+        assert_eq!(axis([1, 1, 1], Some(2)), None);
+    }
+
+    #[test]
+    fn a_grade_axis_is_of_a_linear_level_with_unequal_ends() {
+        let level = |kind, axis: usize, ends: [i64; 2]| {
+            let mut d = PLAIN;
+            (d[LEVEL_KIND], d[FROM + axis], d[TO + axis]) = (kind, 40, -3);
+            [d[START], d[END]] = ends;
+            grade_axis(&d)
+        };
+        for axis in 0..3 {
+            assert_eq!(level(LINEAR, axis, [7, 8]), Some(axis));
+            assert_eq!(level(LINEAR, axis, [7, 7]), None);
+            assert_eq!(level(CONSTANT, axis, [7, 8]), None);
+        }
     }
 
     #[test]
@@ -220,7 +303,7 @@ mod tests {
         if !reference::AT_HAND {
             return;
         }
-        let walked = walked(&format!("{} 9 65536", LISTING.replace("2048", "0")));
+        let walked = walked(&format!("{} 9 0 65536", LISTING.replace("2048", "0")));
         let table = Table::read(&walked.table).unwrap();
         let head = table.head();
         let mut text = format!("{} {} {} {}", head.cells, head.evaluated, head.solid, head.open);

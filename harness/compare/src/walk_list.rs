@@ -3,14 +3,15 @@
 use crate::chance::Chance;
 use crate::entries::*;
 use crate::list::whole;
-use crate::{cases, descriptions, walk, walks};
+use crate::{descriptions, ties, walk, walks};
 use request::{Answer, Call, Description, Request, SLOT};
 
 const SEED: u64 = 1;
 /// The longest table of a case: 127 cells.
 const LONGEST: usize = 128 * SLOT;
-/// Walks by chance.
+/// Walks by chance by the lowest-axis rule, and by the default one.
 const CHANCES: usize = 60;
+const DEFAULT_CHANCES: usize = 20;
 
 fn constant(period: i64, level: i64) -> Description {
     let mut d = PLAIN;
@@ -32,11 +33,11 @@ fn bounds(low: [i64; 3], spans: [i64; 3]) -> [i64; 6] {
     std::array::from_fn(|i| if i < 3 { low[i] } else { low[i - 3] + spans[i - 3] })
 }
 
-/// A walk with as many bytes as its cells want; any few where it is refused before it is counted.
+/// A walk by the lowest-axis rule with as many bytes as its cells want; any few where it is refused before it is
+/// counted.
 fn exact(description: Description, whole: [i64; 6], depth: i64) -> Request {
-    let mut request = Request { whole, depth, ..Request::new(Call::Walk, description) };
-    request.table = (walk::cells(&request).unwrap_or(1) as usize + 1) * SLOT;
-    request
+    let request = Request { whole, depth, rule: LOWEST_AXIS, ..Request::new(Call::Walk, description) };
+    Request { table: walk::room(&request), ..request }
 }
 
 /// Constants of several periods, a linear level with equal ends among them and the primitive surface: depths 0 to 7 of boxes below,
@@ -139,7 +140,7 @@ fn rooms(out: &mut Vec<Request>) {
         exact(ramp, [-1000, -7, 0, 3000, 2000, 2500], 5),
         exact(primitive(ramp), [-1000, 1000, 2000, 3000, 3500, 4500], 8),
     ];
-    out.push(Request { table: LONGEST, ..walks::hopeless() });
+    out.push(Request { table: LONGEST, rule: LOWEST_AXIS, ..walks::hopeless() });
     for walk in walks {
         let about = [-32, -1, 0, 1, 31, 32, 103].map(|more| walk.table.saturating_add_signed(more));
         out.extend([0, 1, 31, 32, 63].into_iter().chain(about).map(|table| Request { table, ..walk }));
@@ -151,22 +152,33 @@ fn broken(row: fn(&mut Request), mut request: Request) -> Request {
     request
 }
 
-/// Every row of the refusal table that a walk can break, the walk's own in pairs and each of the others with one of them; and every
-/// kind, one less and one more.
-fn refusals(out: &mut Vec<Request>) {
-    let accepted = Request { table: 100, ..exact(PLAIN, [-9, 0, 3, 9, 8, 9], 2) };
-    for (i, first) in walks::ROWS.into_iter().enumerate() {
-        out.extend(walks::ROWS[i..].iter().map(|second| broken(*second, broken(first, accepted))));
-    }
-    for (i, row) in descriptions::ROWS.into_iter().enumerate() {
-        let ways = (0..).map(|index| {
+/// A walk with each of the description's rows of the refusal table broken, in the first way that has words.
+fn misdescribed(accepted: Request) -> impl Iterator<Item = Request> {
+    descriptions::ROWS.into_iter().filter_map(move |row| {
+        let mut ways = (0..).map(|index| {
             let mut request = accepted;
             row(&mut Chance::new(SEED, 0, index), &mut request.description);
             request
         });
+        ways.find(|request| words(request).is_some())
+    })
+}
+
+/// A walk that is accepted.
+fn accepted() -> Request {
+    exact(PLAIN, [-9, 0, 3, 9, 8, 9], 2)
+}
+
+/// Every row of the refusal table that a walk can break, the walk's own in pairs and each of the others with one of them; and every
+/// kind, one less and one more.
+fn refusals(out: &mut Vec<Request>) {
+    let accepted = Request { table: 100, ..accepted() };
+    for (i, first) in walks::ROWS.into_iter().enumerate() {
+        out.extend(walks::ROWS[i..].iter().map(|second| broken(*second, broken(first, accepted))));
+    }
+    for (i, request) in misdescribed(accepted).enumerate() {
         let own = walks::ROWS[i % walks::ROWS.len()];
-        let with_words = ways.filter(|request| words(request).is_some()).take(1);
-        out.extend(with_words.flat_map(|request| [request, broken(own, request)]));
+        out.extend([request, broken(own, request)]);
     }
     // What 32 bits would cut to a number within its limits.
     let cut: [fn(&mut Request); 3] =
@@ -180,19 +192,58 @@ fn refusals(out: &mut Vec<Request>) {
     }));
 }
 
-fn chances(out: &mut Vec<Request>) {
-    let requests = (0..).map(|index| {
-        let c = &mut Chance::new(SEED, 1, index);
-        let d = descriptions::accepted(c);
-        cases::about(c, Call::Walk, d)
+/// Walks by chance about accepted descriptions, by a rule: as many as are taken.
+fn by_chance(stream: u64, rule: u32) -> impl Iterator<Item = Request> {
+    let requests = (0..).map(move |index| {
+        let c = &mut Chance::new(SEED, stream, index);
+        let mut request = Request { rule, ..Request::new(Call::Walk, descriptions::accepted(c)) };
+        walks::set(c, &mut request);
+        request
     });
-    out.extend(requests.filter(|request| request.table <= LONGEST && words(request).is_some()).take(CHANCES));
+    requests.filter(|request| request.table <= LONGEST && words(request).is_some())
+}
+
+fn chances(out: &mut Vec<Request>) {
+    out.extend(by_chance(1, LOWEST_AXIS).take(CHANCES));
+}
+
+/// Whether a walk by the default rule leaves the bytes that the lowest-axis rule leaves.
+fn as_by_the_lowest(request: &Request) -> bool {
+    walk::answer(request).same(&walk::answer(&Request { rule: LOWEST_AXIS, ..*request }))
+}
+
+/// Boxes whose longest spans tie or miss it by a tick, at levels that are graded, just graded and not graded, by the
+/// default rule; the same by the other one where that cuts them otherwise.
+fn tied(out: &mut Vec<Request>) {
+    for request in ties::all() {
+        out.push(request);
+        if !as_by_the_lowest(&request) {
+            out.push(ties::by_the_lowest_axis(&request));
+        }
+    }
+}
+
+/// Walks by the default rule that are not those of the other one: the first among so many by chance.
+fn default_chances(out: &mut Vec<Request>) {
+    let told = by_chance(2, GRADE_AXIS).take(2000).filter(|request| !as_by_the_lowest(request));
+    out.extend(told.take(DEFAULT_CHANCES));
+}
+
+/// Rules that are none, of a walk that is accepted and of one that breaks any other row of the refusal table: 1 comes
+/// first.
+fn no_rules(out: &mut Vec<Request>) {
+    let mut otherwise = vec![accepted()];
+    otherwise.extend(walks::ROWS.map(|row| broken(row, accepted())));
+    otherwise.extend(misdescribed(accepted()));
+    for rule in [2, u32::MAX] {
+        out.extend(otherwise.iter().map(|request| Request { rule, ..*request }));
+    }
 }
 
 /// What a walk takes, as words; nothing where a number has none.
 fn words(request: &Request) -> Option<Vec<u64>> {
-    let numbers = request.description.iter().chain(&request.whole).chain([&request.depth]);
-    numbers.map(|n| whole((*n).into())).chain([whole(request.table as i128)]).collect()
+    let numbers = request.description.iter().chain(&request.whole).chain([&request.depth]).map(|n| i128::from(*n));
+    numbers.chain([request.rule.into(), request.table as i128]).map(whole).collect()
 }
 
 /// The case of a walk; nothing where it has none.
@@ -208,7 +259,12 @@ fn case(request: &Request) -> Option<Vec<u8>> {
 
 fn requests() -> Vec<Request> {
     let mut out = Vec::new();
+    // By the lowest-axis rule.
     for add in [constants, ramps, extremes, rooms, refusals, chances, hairs, depths] {
+        add(&mut out);
+    }
+    // By the default one, beside it by the lowest-axis rule, and by none.
+    for add in [tied, default_chances, no_rules] {
         add(&mut out);
     }
     out
@@ -244,6 +300,30 @@ mod tests {
         for depth in (0..8).chain([24]) {
             assert!(depths.get(&depth) > Some(&5), "{depth}: {depths:?}");
         }
+    }
+
+    /// Either rule comes up, and rules that are none with walks that by a rule are refused by every number, or by none.
+    #[test]
+    fn every_rule_comes_up() {
+        if !reference::AT_HAND {
+            return;
+        }
+        let (mut rules, mut otherwise, mut told) = (BTreeMap::<u32, u32>::new(), BTreeSet::new(), 0);
+        for request in requests() {
+            *rules.entry(request.rule).or_default() += 1;
+            let lowest = Request { rule: LOWEST_AXIS, ..request };
+            match request.rule {
+                LOWEST_AXIS => {}
+                GRADE_AXIS => told += u32::from(!as_by_the_lowest(&request)),
+                _ => {
+                    assert_eq!(walk::answer(&request).refused(), Some(1), "{request}");
+                    otherwise.insert(walk::answer(&lowest).refused().unwrap_or(0));
+                }
+            }
+        }
+        assert_eq!(rules.keys().copied().collect::<Vec<_>>(), [GRADE_AXIS, LOWEST_AXIS, 2, u32::MAX]);
+        assert!(told > 40, "{told}: {rules:?}");
+        assert_eq!(otherwise.into_iter().collect::<Vec<_>>(), [0, 1, 2, 3, 4, 5, 11, 12, 13]);
     }
 
     /// The depths that the cells of a walk have, each once.
@@ -287,8 +367,8 @@ mod tests {
         let case = case(&request).unwrap();
         let Answer::Walked(walked) = walk::answer(&request) else { panic!("a walk's answer") };
         let word = |i: usize| u64::from_le_bytes(case[8 * i..][..8].try_into().unwrap()) as i64 - (1 << 62);
-        assert_eq!([0, 21, 24, 25, 26].map(word), [10240, 1024, 1, 97, 0]);
-        assert_eq!(case[27 * 8..], [walked.table, vec![0; 7]].concat());
+        assert_eq!([0, 21, 24, 25, 26, 27].map(word), [10240, 1024, 1, LOWEST_AXIS.into(), 97, 0]);
+        assert_eq!(case[28 * 8..], [walked.table, vec![0; 7]].concat());
         assert!(super::case(&Request { table: LONGEST + 1, ..request }).is_none());
     }
 }

@@ -1,4 +1,5 @@
-//! Walks by chance: boxes of every size, depths that are affordable, and tables about the room that the cells want.
+//! Walks by chance: boxes of every size, depths that are affordable, tie rules, and tables about the room that the
+//! cells want.
 
 use crate::chance::Chance;
 use crate::entries::*;
@@ -65,10 +66,17 @@ fn depth(c: &mut Chance, request: &Request) -> i64 {
     }
 }
 
+/// Rules that are none.
+pub const NO_RULES: [u32; 4] = [2, 3, 1 << 31, u32::MAX];
+
+/// Half by either rule, but for one in 16, which is by none.
+fn rule(c: &mut Chance) -> u32 {
+    if c.once_in(16) { c.one_of(&NO_RULES) } else { c.one_of(&[GRADE_AXIS, LOWEST_AXIS]) }
+}
+
 /// A table about the length that the walk wants; any where it is refused before it is counted.
 fn table(c: &mut Chance, request: &Request) -> usize {
-    let cells = walk::cells(request).unwrap_or(1);
-    let wanted = (cells as usize + 1) * SLOT;
+    let wanted = walk::room(request);
     match c.below(10) {
         0 => c.below(64) as usize,
         1 => wanted - SLOT,
@@ -81,9 +89,19 @@ fn table(c: &mut Chance, request: &Request) -> usize {
     }
 }
 
-/// Gives a request about a description its box, depth and table.
-pub fn set(c: &mut Chance, request: &mut Request) {
-    request.whole = bounds(c, request);
+/// The longest span for other axes too, so that it ties.
+fn tie(c: &mut Chance, bounds: &mut [i64; 6]) {
+    let longest = walk::spans(bounds).into_iter().fold(1, i64::max);
+    for axis in 0..3 {
+        if !c.once_in(4) {
+            bounds[axis] = bounds[axis].min(TICKS - longest);
+            bounds[3 + axis] = bounds[axis] + longest;
+        }
+    }
+}
+
+/// Gives a request with a box its depth and table; one box in 12 is damaged.
+fn finish(c: &mut Chance, request: &mut Request) {
     if c.once_in(12) {
         damage(c, &mut request.whole);
     }
@@ -91,7 +109,24 @@ pub fn set(c: &mut Chance, request: &mut Request) {
     request.table = table(c, request);
 }
 
-/// One way to break each row of the refusal table that is the walk's own, in its order; row 1 by the box.
+/// Gives a request about a description and by a rule its box, depth and table.
+pub fn set(c: &mut Chance, request: &mut Request) {
+    request.whole = bounds(c, request);
+    finish(c, request);
+}
+
+/// The same with a rule by chance, and with more boxes on which that tells.
+pub fn set_by_any_rule(c: &mut Chance, request: &mut Request) {
+    request.rule = rule(c);
+    request.whole = bounds(c, request);
+    if c.once_in(2) {
+        tie(c, &mut request.whole);
+    }
+    finish(c, request);
+}
+
+/// One way to break each row of the refusal table that is the walk's own, in its order; row 1 by the box. A rule that
+/// is none breaks row 1 too, before all of these.
 pub const ROWS: [fn(&mut Request); 7] = [
     |r| r.whole[4] = TICKS + 1,
     |r| r.whole[3] = r.whole[0],
@@ -158,9 +193,31 @@ mod tests {
             let c = &mut Chance::new(9, 0, index);
             let mut request = Request::new(Call::Walk, PLAIN);
             request.whole = bounds(c, &request);
+            tie(c, &mut request.whole);
             request.depth = depth(c, &request);
             assert!(walk::most_cells(&request) <= 4096, "{request}");
         }
+    }
+
+    /// Either rule comes up, each with boxes that the other would walk otherwise, and every rule that is none.
+    #[test]
+    fn every_rule_comes_up() {
+        if !reference::AT_HAND {
+            return;
+        }
+        let (mut seen, mut told) = (BTreeMap::<u32, u32>::new(), BTreeMap::<u32, u32>::new());
+        for request in (0..1_000).map(|index| cases::by_chance(Call::Walk, 1, index)) {
+            *seen.entry(request.rule).or_default() += 1;
+            if added::refusal(&request).is_none() {
+                let other = Request { rule: GRADE_AXIS + LOWEST_AXIS - request.rule, ..request };
+                let same = walk::answer(&request).same(&walk::answer(&other));
+                *told.entry(request.rule).or_default() += u32::from(!same);
+            }
+        }
+        for rule in [GRADE_AXIS, LOWEST_AXIS] {
+            assert!(seen[&rule] > 400 && told[&rule] > 25, "{rule}: {seen:?}, {told:?}");
+        }
+        assert!(NO_RULES.iter().all(|rule| seen[rule] > 5), "{seen:?}");
     }
 
     /// Every refusal and every kind of table comes up.

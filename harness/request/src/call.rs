@@ -14,7 +14,7 @@ pub enum Shape {
     Corners,
     /// Three doubles.
     Point,
-    /// A box of whole ticks, a depth and the length of a table in bytes.
+    /// A box of whole ticks, a depth, a tie rule and the length of a table in bytes.
     Walk,
 }
 
@@ -32,11 +32,11 @@ impl Shape {
         }
     }
 
-    /// The numbers that stand last: a piece, or a depth and a table's length.
+    /// The numbers that stand last: a piece, or a depth, a tie rule and a table's length.
     pub fn last(self) -> usize {
         match self {
             Shape::WorldPiece => 1,
-            Shape::Walk => 2,
+            Shape::Walk => 3,
             _ => 0,
         }
     }

@@ -26,13 +26,15 @@ pub struct Request {
     pub doubles: [f64; 18],
     pub piece: u32,
     pub depth: i64,
+    /// The tie rule of a walk: 0 the default, ties to the grade axis; 1 the lowest axis. Any other is refused.
+    pub rule: u32,
     /// The length of the table that a walk is lent, in bytes.
     pub table: usize,
 }
 
 impl Request {
     pub fn new(call: Call, description: Description) -> Self {
-        Self { call, description, whole: [0; 6], doubles: [0.0; 18], piece: 0, depth: 0, table: 0 }
+        Self { call, description, whole: [0; 6], doubles: [0.0; 18], piece: 0, depth: 0, rule: 0, table: 0 }
     }
 
     /// The doubles that the call takes.

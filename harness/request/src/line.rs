@@ -22,8 +22,9 @@ fn double(word: &str) -> Result<f64, String> {
     Ok(f64::from_bits(bits))
 }
 
-fn piece(word: &str) -> Result<u32, String> {
-    u32::try_from(whole(word)?).map_err(|_| format!("{word:?} does not fit a piece's 32 bits"))
+/// The number of a piece or of a rule, whether there is such a one or not.
+fn numbered(word: &str, what: &str) -> Result<u32, String> {
+    u32::try_from(whole(word)?).map_err(|_| format!("{word:?} does not fit a {what}'s 32 bits"))
 }
 
 /// The longest table or report that a line can ask for: more bytes than the cells of most walks fill.
@@ -63,8 +64,11 @@ impl FromStr for Request {
             *entry = double(word)?;
         }
         match rest {
-            [word] => request.piece = piece(word)?,
-            [depth, table] => (request.depth, request.table) = (whole(depth)?, length(table, "table")?),
+            [word] => request.piece = numbered(word, "piece")?,
+            [depth, rule, table] => {
+                (request.depth, request.rule) = (whole(depth)?, numbered(rule, "rule")?);
+                request.table = length(table, "table")?;
+            }
             _ => {}
         }
         Ok(request)
@@ -82,7 +86,7 @@ impl fmt::Display for Request {
         }
         match self.call.shape() {
             Shape::WorldPiece => write!(f, " {}", self.piece),
-            Shape::Walk => write!(f, " {} {}", self.depth, self.table),
+            Shape::Walk => write!(f, " {} {} {}", self.depth, self.rule, self.table),
             _ => Ok(()),
         }
     }
@@ -110,7 +114,7 @@ mod tests {
             }
             match call {
                 Call::Derivatives => request.piece = u32::MAX,
-                Call::Walk => (request.depth, request.table) = (i64::MIN, LONGEST),
+                Call::Walk => (request.depth, request.rule, request.table) = (i64::MIN, u32::MAX, LONGEST),
                 _ => {}
             }
             assert_eq!(request.to_string().parse(), Ok(request));
@@ -130,7 +134,7 @@ mod tests {
     fn what_is_no_request_is_named() {
         assert_eq!(error(""), r#""" is no call"#);
         assert_eq!(error("turn 1"), r#""turn" is no call"#);
-        assert_eq!(error("walk 1"), "walk takes 26 numbers, not 1");
+        assert_eq!(error("walk 1"), "walk takes 27 numbers, not 1");
         assert_eq!(error("graded 1"), "graded takes 18 numbers, not 1");
         assert_eq!(error(&format!("graded {ENTRIES} ")), "graded takes 18 numbers, not 19");
         assert_eq!(error(&format!("graded {}", ENTRIES.replace("10240", "+1"))), r#""+1" is no whole number"#);
@@ -142,8 +146,11 @@ mod tests {
         assert_eq!(error(&format!("fast {ENTRIES} 0 0 0")), r#""0" is not 16 hexadecimal digits"#);
         let zeros = ["0000000000000000"; 6].join(" ");
         assert_eq!(error(&format!("derivatives {ENTRIES} {zeros} -1")), r#""-1" does not fit a piece's 32 bits"#);
+        let walk = |last: &str| error(&format!("walk {ENTRIES} 0 0 0 1 1 1 0 {last}"));
+        assert_eq!(walk("-1 64"), r#""-1" does not fit a rule's 32 bits"#);
+        assert_eq!(walk("4294967296 64"), r#""4294967296" does not fit a rule's 32 bits"#);
         let lengths = "is no table's length, which is 0 to 1073741824 bytes";
-        assert_eq!(error(&format!("walk {ENTRIES} 0 0 0 1 1 1 0 -1")), format!(r#""-1" {lengths}"#));
-        assert_eq!(error(&format!("walk {ENTRIES} 0 0 0 1 1 1 0 1073741825")), format!(r#""1073741825" {lengths}"#));
+        assert_eq!(walk("1 -1"), format!(r#""-1" {lengths}"#));
+        assert_eq!(walk("1 1073741825"), format!(r#""1073741825" {lengths}"#));
     }
 }

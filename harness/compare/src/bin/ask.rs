@@ -14,10 +14,13 @@ const HELP: &str = "ask [--reference]: one request a line on standard input, one
   facet_residual                                    args: three corners, each as six ends
   fast fast_distance                                args: x, y, z
   curvature lipschitz saturated graded planes       no args
-  walk                                              args: three lows, three highs, in ticks, depth, the table's bytes
+  walk                                              args: three lows, three highs, in ticks, depth, tie rule, the
+                                                    table's bytes
   layers LOW HIGH BYTES TABLE    no description; the layers from LOW to HIGH - 1, a report of so many BYTES, and the
                                  TABLE as two hexadecimal digits for each byte, or `-` for one without a byte
 
+The tie rule says which of the longest sides of a box a walk halves where they tie: 0, the default, the one along the
+axis of a linear level with unequal ends if it is among them, otherwise the lowest; 1, the lowest.
 A walk's answer is cells, evaluated, solid, open, then state, depth, lows, highs of each cell. That of layers is the tick
 squares in inside, outside and unsettled cells of each layer.
 Answers: the values, `none`, `refused N`, or `error: ..` for a line that is no request (the exit status is then 1).

@@ -7,14 +7,16 @@ use compare::{guard, stack};
 use std::process::ExitCode;
 use std::time::Duration;
 
-const HELP: &str = "bench: for each of six boxes the time of a walk, which makes one pass, that of a walk in two
-passes, and their ratio, of which document 02 asks at most two thirds for a core of 100,000 cells or more, as the first
-two are; then cells a second in one pass, ours and the original's, and their ratio. Then the time of a layer report, ours
-and that of safe Rust, and their ratio; then the time of a box_state by the bindings, which set the float state and
+const HELP: &str = "bench: for each of seven boxes the time of a walk, which makes one pass, that of a walk in two
+passes, and their ratio, of which document 02 asks at most two thirds for a core of 100,000 cells or more, as the three
+cores are; then cells a second in one pass, ours and the original's, and their ratio. Then the time of a layer report,
+ours and that of safe Rust, and their ratio; then the time of a box_state by the bindings, which set the float state and
 restore it, and by the library itself; then the stack of a walk of depth 24
 
-The boxes: two cores, at a constant and at a linear level; a plate; a needle; an odd box, whose spans and period are no
-powers of two; and a single box, which is not halved and so is one cell.
+The boxes: three cores, at a constant level, at a linear one along x, and upright, at a linear one along z; a plate; a
+needle; an odd box, whose spans and period are no powers of two, at a linear level along z; and a single box, which is
+not halved and so is one cell. All are walked by the default tie rule, and those at a linear level by the lowest-axis
+rule as well: `linear, lowest` and so on. A side that is timed beside ours walks by the same rule.
 
 Each side has its turn in each of five rounds, and its median time counts. Our walk of the single box takes about a
 microsecond, so a turn makes it 2,000 times and divides; a turn makes every other walk once. Most of the original's time
@@ -75,7 +77,7 @@ fn said(line: Result<String, String>, name: &str) -> bool {
 fn bench() -> ExitCode {
     let mut all = true;
     for case in cases() {
-        all &= said(race(&case).map(|race| line(case.name, &race)), case.name);
+        all &= said(race(&case).map(|race| line(&case.name, &race)), &case.name);
     }
     all &= said(layer_race::race().map(|race| layer_line(&race)), "layer report");
     let cost = guard::cost();

@@ -15,6 +15,10 @@ every entry at every special number, every pair of the refusal table's rows, eve
 the ends of each axis, boxes that end some least doubles beside an anchor plane. A zero's sign is open, and fractions are compared
 by value. Of a walk every byte of the table is compared, refused or not, with a plain walk over the original's box_state.
 
+Walks are made by either tie rule, the systematic ones by each of them; among these are boxes whose longest sides tie or
+miss it by a tick, at levels that are graded along each axis and that are not graded. Some are asked by a rule that is
+none, which is refused by 1, with every other row of the refusal table broken beside.
+
 Half of the descriptions are of the network and half of the primitive surface, which the original does not know: there document 02's
 lines stand in its place.
 

@@ -1,6 +1,7 @@
 -- The walk of what the line describes. Assumes nothing.
 use mathlib.Core.Path.{_∙_}
 use lib.ListN.{length}
+use Rattle.walk.specs.declared.TieRule.the-variants.{LowestAxis}
 use Rattle.walk.specs.InUse.{walkNumber, walkTable}
 use Rattle.text.specs.Cells.{numberOf, tableOf}
 use Rattle.text.proofs.CellsLaws.{entry}
@@ -29,9 +30,9 @@ returns c =
     let highs = c .before .before .before .before .before .three-from2 .ensures in
     let depth = entry (start .args .t1) 16 (c .before .before .before .before .walk-arg .given) in
     let w = c .before .before .walk .ensures in (
-      w .0 ∙ (λ k. walkNumber (described k) (lows k) (highs k) (depth k) (length (start .args .table .now))),
+      w .0 ∙ (λ k. walkNumber (described k) (lows k) (highs k) (depth k) LowestAxis (length (start .args .table .now))),
       w .1 .0
-          ∙ (λ k. walkTable (described k) (lows k) (highs k) (depth k) (start .args .table .now)),
+          ∙ (λ k. walkTable (described k) (lows k) (highs k) (depth k) LowestAxis (start .args .table .now)),
     )
 
 pub walk-line-spec : {M : Type 1} → statement M

@@ -9,7 +9,8 @@ use lib.ListN.{length}
 use Rattle.interval.specs.declared.Interval.{Interval}
 use Rattle.gyroid.specs.declared.Gyroid.{Gyroid}
 use Rattle.gyroid.specs.InUse.{boxState}
-use Rattle.tree.specs.Box.{boxOf, longest}
+use Rattle.tree.specs.Box.{boxOf, cut}
+use Rattle.tree.proofs.CutLaws.{fair-cut}
 use Rattle.tree.proofs.CountLaws.{leaves-small}
 use Rattle.table.proofs.Written.{zeroed}
 use Rattle.gyroid.specs.Numbers.{leafAt}
@@ -51,17 +52,21 @@ small : (n : tie.After-count) → n .count .result .cells ≤ 16777216
 small n =
     let l = lent n in
     let s = start l in
-    omega (arith, counted-cells _ _ _ (n .count .ensures .0), leaves-small (settled (leaf l)) longest (s .args .depth) (boxOf (s .args .b)) (s .pre .1 .1))
+    omega (
+      arith,
+      counted-cells _ _ _ _ (n .count .ensures .0),
+      leaves-small (settled (leaf l)) (cut (s .args .ties)) (s .args .depth) (boxOf (s .args .b)) (s .pre .1 .1),
+    )
 
 few : (e : tie.Else1) → 32 * (counted e .count .result .cells + 1) ≤ length (start (lent (counted e)) .args .table .now)
 few e = omega (arith, e .if1 .left)
 
 room : (e : tie.Else1)
     → let n = counted e in let l = lent n in let a = start l .args in
-    HasRoom (leaf l) (a .depth) (boxOf (a .b)) 2 (length (a .table .now) / 32) (n .count .result)
+    HasRoom (leaf l) (cut (a .ties)) (a .depth) (boxOf (a .b)) 2 (length (a .table .now) / 32) (n .count .result)
 room e =
     let n = counted e .count .ensures .0 in
-    record { fits = omega (arith, counted-cells _ _ _ n, e .if1 .left); counted = n }
+    record { fits = omega (arith, counted-cells _ _ _ _ n, e .if1 .left); counted = n }
 
 -- ---- the needs
 count-requires : tie.Need-count-requires
@@ -81,9 +86,9 @@ returns c =
     let n = e .before .before in
     let l = lent n in
     let a = start l .args in
-    let w = room-refused (leaf l) (a .depth) (boxOf (a .b)) (a .table .now) (zeroed (a .table .now) (z .zero .ensures))
-    (omega (arith, counted-cells _ _ _ (n .count .ensures .0), e .if1 .taken)) in
-    (w .0 ∙ same-refusal (leaf l) (a .g) (same l) _ _ _, w .1 ∙ same-table (leaf l) (a .g) (same l) _ _ _)
+    let w = room-refused (leaf l) (cut (a .ties)) (a .depth) (boxOf (a .b)) (a .table .now) (zeroed (a .table .now) (z .zero .ensures))
+    (omega (arith, counted-cells _ _ _ _ (n .count .ensures .0), e .if1 .taken)) in
+    (w .0 ∙ same-refusal (leaf l) (a .g) (same l) _ _ _ _, w .1 ∙ same-table (leaf l) (a .g) (same l) _ _ _ _)
 
 -- ---- there is
 fill-requires : tie.Need-fill-requires
@@ -91,7 +96,7 @@ fill-requires c κs =
     let n = counted (c .before .before .before .before) in
     let l = lent n in
     let s = start l in
-    let most = leaves-small (settled (leaf l)) longest (s .args .depth) (boxOf (s .args .b)) (s .pre .1 .1) in
+    let most = leaves-small (settled (leaf l)) (cut (s .args .ties)) (s .args .depth) (boxOf (s .args .b)) (s .pre .1 .1) in
     (s .pre .1 .0, (omega arith, (s .pre .1 .1, (omega arith, (omega (arith, most), n .count .ensures .1)))))
 
 add-zero : tie.Need-add-zero
@@ -107,7 +112,7 @@ head-requires : tie.Need-head-requires
 head-requires c κs =
     let n = counted (roomy (c .before .before .before .before)) in
     let good = start (lent n) .pre .1 .0 in
-    (good, counted-most _ _ _ (n .count .ensures .0) good)
+    (good, counted-most _ _ _ _ (n .count .ensures .0) (fair-cut _) good)
 
 returns-2 : tie.Need-returns-2
 returns-2 c =
@@ -118,10 +123,10 @@ returns-2 c =
     let e = roomy k in
     let l = lent (counted e) in
     let a = start l .args in
-    let cells-put = root-placed (leaf l) (a .depth) (boxOf (a .b)) (a .table .now) (f .fill .ensures .1 .0 (room e .fits)) refl in
-    let w = room-done (leaf l) (a .depth) (boxOf (a .b)) (a .table .now) (room e) cells-put (z .zero2 .ensures) (h .before .head .ensures)
+    let cells-put = root-placed (leaf l) (cut (a .ties)) (a .depth) (boxOf (a .b)) (a .table .now) (f .fill .ensures .1 .0 (room e .fits)) refl in
+    let w = room-done (leaf l) (cut (a .ties)) (a .depth) (boxOf (a .b)) (a .table .now) (room e) cells-put (z .zero2 .ensures) (h .before .head .ensures)
     (h .put-head .ensures) in
-    (w .0 ∙ same-refusal (leaf l) (a .g) (same l) _ _ _, w .1 ∙ same-table (leaf l) (a .g) (same l) _ _ _)
+    (w .0 ∙ same-refusal (leaf l) (a .g) (same l) _ _ _ _, w .1 ∙ same-table (leaf l) (a .g) (same l) _ _ _ _)
 
 pub run-twice-spec : {M : Type 1} → statement M
 run-twice-spec =

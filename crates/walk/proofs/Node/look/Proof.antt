@@ -7,7 +7,7 @@ use borrow.Author.Needs.{needs}
 use Rattle.gyroid.specs.declared.Gyroid.{Gyroid}
 use Rattle.gyroid.specs.declared.State.{State}
 use Rattle.tree.specs.declared.Axis.{Axis}
-use Rattle.tree.specs.Box.{Box, longest, oneCube, boxOf}
+use Rattle.tree.specs.Box.{Box, cut, oneCube, boxOf}
 use Rattle.gyroid.specs.Numbers.{leafAt}
 use Rattle.walk.specs.declared.Step.{Step}
 use Rattle.walk.specs.Walk.{isSettled}
@@ -17,16 +17,17 @@ use Rattle.walk.proofs.EndLaws.{state-is}
 use Rattle.walk.proofs.Node.look.Statement.{statement}
 use Rattle.walk.proofs.Node.look.Tie as tie
 
-module _ (g : Gyroid) (d : ℕ) (b : Box) {s : State} (own : s ≡ stateAt g b) {t : Bool} (test : t ≡ (isSettled s || eqb d 0 || oneCube b)) where
+module _ (g : Gyroid) (axis : Box → Axis) (d : ℕ) (b : Box) {s : State} {t : Bool} (own : s ≡ stateAt g b)
+    (test : t ≡ (isSettled s || eqb d 0 || oneCube b)) where
   -- the test of the box's own state
   tested : (isSettled (stateAt g b) || eqb d 0 || oneCube b) ≡ t
   tested = ap (λ (r : State). isSettled r || eqb d 0 || oneCube b) (sym own) ∙ sym test
 
-  cell : t ≡ true → Step.Cell s ≡ stepAt g d b
+  cell : t ≡ true → Step.Cell s ≡ stepAt g axis d b
   unfolding stepAt
   cell e = rw (tested ∙ e) (ap (λ (r : State). Step.Cell r) own)
 
-  halves : t ≡ false → {a : Axis} → a ≡ longest b → Step.Halves a ≡ stepAt g d b
+  halves : t ≡ false → {a : Axis} → a ≡ axis b → Step.Halves a ≡ stepAt g axis d b
   unfolding stepAt
   halves e f = rw (tested ∙ e) (ap (λ (x : Axis). Step.Halves x) f)
 
@@ -36,7 +37,8 @@ returns c =
     let a = state .before .before .before .before .before .args in
     let g = leafAt (a .leaf .now) in
     let b = boxOf (a .self .b) in
-    (cell g (a .depth) b (state .state .ensures .0 ∙ sym (state-is g b)) (c .before .stops .ensures) (c .if1 .taken), state .state .ensures .1)
+    let own = state .state .ensures .0 ∙ sym (state-is g b) in
+    (cell g (cut (a .ties)) (a .depth) b own (c .before .stops .ensures) (c .if1 .taken), state .state .ensures .1)
 
 returns-2 : tie.Need-returns-2
 returns-2 c =
@@ -45,7 +47,7 @@ returns-2 c =
     let g = leafAt (a .leaf .now) in
     let b = boxOf (a .self .b) in
     let own = state .state .ensures .0 ∙ sym (state-is g b) in
-    (halves g (a .depth) b own (c .before .before .stops .ensures) (c .before .if1 .left) (c .longest .ensures), state .state .ensures .1)
+    (halves g (cut (a .ties)) (a .depth) b own (c .before .before .stops .ensures) (c .before .if1 .left) (c .cut .ensures), state .state .ensures .1)
 
 pub look-spec : {M : Type 1} → statement M
 look-spec = tie.close (tie.spec (λ c κs. search needs) (λ c κs. search needs) returns (λ c κs. search needs) returns-2)

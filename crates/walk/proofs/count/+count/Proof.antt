@@ -5,7 +5,8 @@ use Prim.Native.Nat.{ℕ, _<_}
 use native.Mathlib.Omega.{arith}
 use borrow.Author.Needs.{needs}
 use Rattle.gyroid.specs.declared.Gyroid.{Gyroid}
-use Rattle.tree.specs.Box.{Box, Good, boxOf}
+use Rattle.tree.specs.Box.{Box, Good, boxOf, cut}
+use Rattle.tree.proofs.CutLaws.{fair-cut}
 use Rattle.tree.proofs.HalfLaws.{good-lower, good-upper}
 use Rattle.gyroid.specs.Numbers.{leafAt}
 use Rattle.walk.proofs.StepLaws.{AtCell, AtHalves, at-cell, at-halves}
@@ -95,11 +96,13 @@ abbrev whole : (t : ℕ) → Start t → Box
 whole t s = boxOf (s .args .n .b)
 
 -- ---- what the step tells
-cell : (t : ℕ) (c : IsCell t) → let s = start t (of-cell t c) in AtCell (leaf t s) (s .args .depth) (whole t s) (c .before .s .given .0 .0)
-cell t c = at-cell _ _ _ _ (sym (of-cell t c .look .ensures .0) ∙ c .before .s .given .1)
+cell : (t : ℕ) (c : IsCell t)
+    → let s = start t (of-cell t c) in AtCell (leaf t s) (cut (s .args .ties)) (s .args .depth) (whole t s) (c .before .s .given .0 .0)
+cell t c = at-cell _ _ _ _ _ (sym (of-cell t c .look .ensures .0) ∙ c .before .s .given .1)
 
-halved : (t : ℕ) (c : IsHalved t) → let s = start t (of-halved t c) in AtHalves (leaf t s) (s .args .depth) (whole t s) (c .before .a .given .0 .0)
-halved t c = at-halves _ _ _ _ (start t (of-halved t c) .pre .1 .0) (sym (of-halved t c .look .ensures .0) ∙ c .before .a .given .1)
+halved : (t : ℕ) (c : IsHalved t)
+    → let s = start t (of-halved t c) in AtHalves (leaf t s) (cut (s .args .ties)) (s .args .depth) (whole t s) (c .before .a .given .0 .0)
+halved t c = at-halves _ _ (fair-cut _) _ _ _ (start t (of-halved t c) .pre .1 .0) (sym (of-halved t c .look .ensures .0) ∙ c .before .a .given .1)
 
 -- ---- the halves are boxes of the tree
 low-good : (t : ℕ) (c : Lower t) → Good (boxOf (c .lower .result .b))
@@ -145,12 +148,12 @@ count-joined-requires t c κs =
     let u = c .before in
     let l = to-lower t u in
     let p = of-lower t l .pre .1 in
-    counted-adds _ _ _ _ (halved t (to-halved t l)) (l .lower .ensures) (u .upper .ensures) (p .0) (p .1 .0)
+    counted-adds _ _ _ _ _ (halved t (to-halved t l)) (l .lower .ensures) (u .upper .ensures) (fair-cut _) (p .0) (p .1 .0)
     (u .before .before .before .count .ensures .0) (c .count2 .ensures .0)
 
 -- ---- what is returned
 count-returns : (t : ℕ) → count-lts.Need-returns (claims t) (count-at t) count.Post
-count-returns t c = (c .cell .ensures ∙ sym (counted-cell _ _ _ _ (cell t (c .before))), of-cell t (c .before) .look .ensures .1)
+count-returns t c = (c .cell .ensures ∙ sym (counted-cell _ _ _ _ _ (cell t (c .before))), of-cell t (c .before) .look .ensures .1)
 
 count-returns-2 : (t : ℕ) → count-lts.Need-returns-2 (claims t) (count-at t) count.Post
 count-returns-2 t c =
@@ -158,7 +161,7 @@ count-returns-2 t c =
     let u = h .before in
     let l = to-lower t u in (
       c .joined .ensures
-          ∙ counted-halves _ _ _ _ (halved t (to-halved t l)) (l .lower .ensures) (u .upper .ensures)
+          ∙ counted-halves _ _ _ _ _ (halved t (to-halved t l)) (l .lower .ensures) (u .upper .ensures)
           (u .before .before .before .count .ensures .0) (h .count2 .ensures .0),
       h .count2 .ensures .1,
     )

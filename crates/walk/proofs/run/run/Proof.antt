@@ -9,7 +9,8 @@ use lib.ListN.{length, replicate}
 use Rattle.interval.specs.declared.Interval.{Interval}
 use Rattle.gyroid.specs.declared.Gyroid.{Gyroid}
 use Rattle.gyroid.specs.InUse.{boxState}
-use Rattle.tree.specs.Box.{boxOf, longest}
+use Rattle.tree.specs.Box.{boxOf, cut}
+use Rattle.tree.proofs.CutLaws.{fair-cut}
 use Rattle.tree.proofs.CountLaws.{leaves-small}
 use Rattle.table.proofs.Written.{zeroed}
 use Rattle.gyroid.specs.Numbers.{leafAt}
@@ -48,25 +49,29 @@ same c w =
 
 room : (c : tie.After-known-told)
     → let l = lent (answered c) in let a = start l .args in
-    HasRoom (leaf l) (a .depth) (boxOf (a .b)) 2 (length (a .table .now) / 32) (c .before .answer .given .0 .0)
-room c = done-tells _ _ _ _ _ (answered c .fill .ensures .0) (c .before .answer .given .1)
+    HasRoom (leaf l) (cut (a .ties)) (a .depth) (boxOf (a .b)) 2 (length (a .table .now) / 32) (c .before .answer .given .0 .0)
+room c = done-tells _ _ _ _ _ _ (answered c .fill .ensures .0) (c .before .answer .given .1)
 
 -- the cells are few, and they and slot 0 are of the table
 small : (c : tie.After-known-told) → c .before .answer .given .0 .0 .cells ≤ 16777216
 small c =
     let l = lent (answered c) in
     let s = start l in
-    omega (arith, counted-cells _ _ _ (room c .counted), leaves-small (settled (leaf l)) longest (s .args .depth) (boxOf (s .args .b)) (s .pre .1 .1))
+    omega (
+      arith,
+      counted-cells _ _ _ _ (room c .counted),
+      leaves-small (settled (leaf l)) (cut (s .args .ties)) (s .args .depth) (boxOf (s .args .b)) (s .pre .1 .1),
+    )
 
 few : (c : tie.After-known-told) → 32 * (c .before .answer .given .0 .0 .cells + 1) ≤ length (start (lent (answered c)) .args .table .now)
-few c = omega (arith, room c .fits, counted-cells _ _ _ (room c .counted))
+few c = omega (arith, room c .fits, counted-cells _ _ _ _ (room c .counted))
 
 -- ---- the needs
 fill-requires : tie.Need-fill-requires
 fill-requires c κs =
     let l = c .before .before .before .before .before in
     let s = start l in
-    let most = leaves-small (settled (leaf l)) longest (s .args .depth) (boxOf (s .args .b)) (s .pre .1 .1) in
+    let most = leaves-small (settled (leaf l)) (cut (s .args .ties)) (s .args .depth) (boxOf (s .args .b)) (s .pre .1 .1) in
     (s .pre .1 .0, (omega arith, (s .pre .1 .1, (omega arith, (omega (arith, most), none-remembers (leaf l) _)))))
 
 -- ---- the cells outgrow the table
@@ -77,10 +82,10 @@ returns c =
     let f = told .before .before .before .before in
     let l = lent f in
     let a = start l .args in
-    let full = full-tells _ _ _ _ _ (f .fill .ensures .0) (told .enum-told .given .1) in
+    let full = full-tells _ _ _ _ _ _ (f .fill .ensures .0) (told .enum-told .given .1) in
     let clear = zeroed (f .fill .last .1 .1 .1 .1 .1 .0) (z .zero .ensures) ∙ ap (λ (k : ℕ). replicate k 0) (f .fill .kept .1 .1 .1 .1 .1 .0) in
-    let w = room-refused (leaf l) (a .depth) (boxOf (a .b)) (a .table .now) clear full in
-    (w .0 ∙ same-refusal (leaf l) (a .g) (same l) _ _ _, w .1 ∙ same-table (leaf l) (a .g) (same l) _ _ _)
+    let w = room-refused (leaf l) (cut (a .ties)) (a .depth) (boxOf (a .b)) (a .table .now) clear full in
+    (w .0 ∙ same-refusal (leaf l) (a .g) (same l) _ _ _ _, w .1 ∙ same-table (leaf l) (a .g) (same l) _ _ _ _)
 
 -- ---- the table holds them
 add-zero : tie.Need-add-zero
@@ -98,7 +103,7 @@ head-requires : tie.Need-head-requires
 head-requires c κs =
     let k = written (c .before .before .before) in
     let good = start (lent (answered k)) .pre .1 .0 in
-    (good, counted-most _ _ _ (room k .counted) good)
+    (good, counted-most _ _ _ _ (room k .counted) (fair-cut _) good)
 
 put-head-requires : tie.Need-put-head-requires
 put-head-requires c κs =
@@ -114,10 +119,10 @@ returns-2 c =
     let f = answered k in
     let l = lent f in
     let a = start l .args in
-    let cells-put = root-placed (leaf l) (a .depth) (boxOf (a .b)) (a .table .now) (f .fill .ensures .1 .0 (room k .fits)) refl in
-    let w = room-done (leaf l) (a .depth) (boxOf (a .b)) (a .table .now) (room k) cells-put (z .zero2 .ensures) (h .before .head .ensures)
+    let cells-put = root-placed (leaf l) (cut (a .ties)) (a .depth) (boxOf (a .b)) (a .table .now) (f .fill .ensures .1 .0 (room k .fits)) refl in
+    let w = room-done (leaf l) (cut (a .ties)) (a .depth) (boxOf (a .b)) (a .table .now) (room k) cells-put (z .zero2 .ensures) (h .before .head .ensures)
     (h .put-head .ensures) in
-    (w .0 ∙ same-refusal (leaf l) (a .g) (same l) _ _ _, w .1 ∙ same-table (leaf l) (a .g) (same l) _ _ _)
+    (w .0 ∙ same-refusal (leaf l) (a .g) (same l) _ _ _ _, w .1 ∙ same-table (leaf l) (a .g) (same l) _ _ _ _)
 
 pub run-spec : {M : Type 1} → statement M
 run-spec =
