@@ -79,4 +79,5 @@ returns-2 c =
     walk-ran d lo hi (s .args .depth) rule (s .args .table .now) (numbered (e .before)) (e .if1 .left) r left
 
 pub walk-twice-spec : {M : Type 1} → statement M
-walk-twice-spec = tie.close (tie.spec (λ _ _. tt) (λ _ _. tt) returns (λ _ _. tt) (λ _ _. tt) of-requires cast-run-twice run-twice-requires same-length returns-2)
+walk-twice-spec =
+    tie.close (tie.spec (λ _ _. tt) (λ _ _. tt) returns (λ _ _. tt) (λ _ _. tt) of-requires cast-run-twice run-twice-requires same-length returns-2)
