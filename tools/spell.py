@@ -78,23 +78,29 @@ def parts(name):
     return {name} | {p for p in name.split("◌") if p and snake(p) != p and re.match(r"[a-z]", p)}
 
 
+def is_own(path):
+    return path.startswith("Rattle.") and path.split(".")[1] in CRATES
+
+
 def own_of(text, table, mine):
     """Which names of the table are this repository's own in a file, and which a library's."""
     own, theirs, heads = set(mine), set(), set()
     for path, items in USE.findall(text):
         names = set(WORD.findall(items)) if items else set()
-        ours = path.startswith("Rattle.") and path.split(".")[1] in CRATES
-        (own if ours else theirs).update(n for n in names if n in table)
+        (own if is_own(path) else theirs).update(n for n in names if n in table)
     return own - theirs, theirs - own
 
 
 def turned(text, own, theirs, fields):
+    aliases = tuple(a + "." for path, a in re.findall(r"(?m)^use (\S+) as (\S+)$", text) if not is_own(path))
+
     def word(m):
-        name = m[0]
+        name, before = m[0], text[: m.start()]
         if name in theirs:
             return name
-        dotted = m.start() and text[m.start() - 1] == "."
-        if name in own or dotted and name in fields:
+        dotted = before.endswith(".") and not before.endswith(aliases)
+        field = re.match(r" *= ", text[m.end() :]) and re.search(r"(?:[{;]|\n) *$", before)
+        if name in own or (dotted or field) and name in fields:
             return snake(name)
         return name
 

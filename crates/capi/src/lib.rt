@@ -2,6 +2,8 @@
 // ticks is three lows and three highs; a box of doubles is the low and the high end of each axis; a triangle is three such boxes. Each
 // call returns a status: 0 where its values stand at the front of `out`, the documents' number where it refuses, 100 where nothing is
 // found, 101 where a slice has the wrong length. Nothing but those values is written.
+#![tactic(auto)]
+
 pub mod lengths; // what the lengths of the lent slices refuse, and the rule of a walk
 pub mod reading; // what is read from a slice
 mod writing; // what is left in one

@@ -1,5 +1,7 @@
 // Program `cells`: reads one line of 17 numbers from standard input, walks what it describes, and prints the table or a refusal. What it prints
 // of what it reads is text::cells's contract. Where it could not write, it says so on standard error.
+#![tactic(auto)]
+
 use libc::{STDERR_FILENO, STDIN_FILENO, STDOUT_FILENO};
 
 fn main() {

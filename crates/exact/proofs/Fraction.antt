@@ -2,7 +2,7 @@
 use mathlib.Core.Path.{◌≡◌, refl, sym, ap, ◌∙◌, subst, subst₂}
 use mathlib.Core.Logic.{◌⊎◌, inl, inr}
 use mathlib.Core.List.{[], ◌∷◌}
-use Prim.Native.Nat.{ℕ, suc, ◌*◌, ◌<◌}
+use Prim.Native.Nat.{ℕ, zero, suc, ◌*◌, ◌<◌}
 use native.Mathlib.Nat as NatL
 use lib.Dec.{lt→ltb, lit<}
 use lib.IntN.{ℤ, pos, negsuc, neg_ℤ, ◌+ℤ◌, ◌-ℤ◌, ◌*ℤ◌, *ℤ_comm, zero-*ℤ}
@@ -210,6 +210,7 @@ num_below {a} h = record { lt = subst₂ (λ (x y : ℤ). x <ℤ y) (sym (num_on
 -- ---- what is divided by a whole number
 pub over_is : (a : Fraction) {n : ℕ} (N : 0 < n) → a /F n ≈F a *F ratio (pos 1) n N
 unfolding ◌/F◌ ◌*F◌
+over_is a {n = zero} N = elim N [ ]
 over_is a {n = suc n} N = record { eq = ring 2 (λ z d. z ⊗ d) (λ z d. z ⊗ lit (pos 1) ⊗ d) tt (a.num ∷ pos (a.den * suc n) ∷ []) }
 
 pub over_mono : {a b : Fraction} {n : ℕ} → 0 < n → a ≤F b → a /F n ≤F b /F n
@@ -220,6 +221,7 @@ over_cong N e = ≤F_antisym (over_mono N (≈F_le e)) (over_mono N (≈F_ge e))
 
 pub over_self : {n : ℕ} → 0 < n → whole (pos n) /F n ≈F one_f
 unfolding ◌/F◌
+over_self {n = zero} N = elim N [ ]
 over_self {n = suc n} N = record { eq = ring 1 (λ n. n ⊗ lit (pos 1)) (λ n. lit (pos 1) ⊗ (lit (pos 1) ⊗ n)) tt (pos (suc n) ∷ []) }
 
 pub over_zero : {n : ℕ} → 0 < n → zero_f /F n ≈F zero_f
@@ -240,20 +242,22 @@ over_mul a b {n} N = ≈F_trans (over_is (a *F b) N) (≈F_trans (ring_f 3 (λ a
 pub over_product : (a b : Fraction) {m n : ℕ} → 0 < m → 0 < n → a /F m *F (b /F n) ≈F (a *F b) /F (m * n)
 over_product a b {m} {n} M N = ≈F_trans (mul_cong_f (over_is a M) (over_is b N))
     (≈F_trans (ring_f 4 (λ a b o u. a ⊗ o ⊗ (b ⊗ u)) (λ a b o u. a ⊗ b ⊗ (o ⊗ u)) tt (a ∷ b ∷ ratio (pos 1) m M ∷ ratio (pos 1) n N ∷ []))
-    (≈F_trans (mul_cong_f (≈F_refl (a *F b)) (mul_ratio (ratio (pos 1) m M) (ratio (pos 1) n N) (NatL.mul_pos M N))) (≈F_sym (over_is (a *F b) (NatL.mul_pos M N)))))
+    (≈F_trans (mul_cong_f (≈F_refl (a *F b)) (mul_ratio (ratio (pos 1) m M) (ratio (pos 1) n N) (NatL.mul-pos M N))) (≈F_sym (over_is (a *F b) (NatL.mul-pos M N)))))
 
 -- over n and times n again
 pub over_times : (a : Fraction) {n : ℕ} → 0 < n → a /F n *F whole (pos n) ≈F a
 unfolding ◌/F◌ ◌*F◌
+over_times a {n = zero} N = elim N [ ]
 over_times a {n = suc n} N = record { eq = ring 3 (λ z d n. z ⊗ n ⊗ d) (λ z d n. z ⊗ (d ⊗ n ⊗ lit (pos 1))) tt (a.num ∷ den_z a ∷ pos (suc n) ∷ []) }
 
 pub over_whole : (z : ℤ) {n : ℕ} (N : 0 < n) → whole z /F n ≈F ratio z n N
 unfolding ◌/F◌
+over_whole z {n = zero} N = elim N [ ]
 over_whole z {n = suc n} N = record { eq = ring 2 (λ z n. z ⊗ n) (λ z n. z ⊗ (lit (pos 1) ⊗ n)) tt (z ∷ pos (suc n) ∷ []) }
 
 pub over_over : (a : Fraction) {m n : ℕ} → 0 < m → 0 < n → a /F m /F n ≈F a /F (m * n)
 over_over a {m} {n} M N = ≈F_trans (over_is (a /F m) N) (≈F_trans (mul_cong_f (≈F_refl (a /F m)) (≈F_sym (over_whole (pos 1) N)))
-    (≈F_trans (over_product a one_f M N) (over_cong (NatL.mul_pos M N) (ring_f 1 (λ a. a ⊗ lit (pos 1)) (λ a. a) tt (a ∷ [])))))
+    (≈F_trans (over_product a one_f M N) (over_cong (NatL.mul-pos M N) (ring_f 1 (λ a. a ⊗ lit (pos 1)) (λ a. a) tt (a ∷ [])))))
 
 pub over_neg : (a : Fraction) {n : ℕ} → 0 < n → neg_f (a /F n) ≈F neg_f a /F n
 over_neg a {n} N = ≈F_trans (neg_cong_f (over_is a N)) (≈F_trans (ring_f 2 (λ a o. ⊝ (a ⊗ o)) (λ a o. ⊝ a ⊗ o) tt (a ∷ ratio (pos 1) n N ∷ [])) (≈F_sym (over_is (neg_f a) N)))

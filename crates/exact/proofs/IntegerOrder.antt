@@ -160,7 +160,7 @@ mul_nonneg {a = pos a} {b = negsuc b} h k = absurd k.le
 mul_nonneg {a = negsuc a} {b = b} h k = absurd h.le
 
 pub mul_pos : {a b : ℤ} → pos 0 <ℤ a → pos 0 <ℤ b → pos 0 <ℤ (a *ℤ b)
-mul_pos {a = pos a} {b = pos b} h k = lt_z_yes (lt→ltb 0 (a * b) (NatL.mul_pos (ltb→lt 0 a h.lt) (ltb→lt 0 b k.lt)))
+mul_pos {a = pos a} {b = pos b} h k = lt_z_yes (lt→ltb 0 (a * b) (NatL.mul-pos (ltb→lt 0 a h.lt) (ltb→lt 0 b k.lt)))
 mul_pos {a = pos a} {b = negsuc b} h k = absurd k.lt
 mul_pos {a = negsuc a} {b = b} h k = absurd h.lt
 

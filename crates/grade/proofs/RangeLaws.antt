@@ -91,7 +91,7 @@ module _ (g : Grade) (linear : T (is_linear g)) (apart : pos 0 <ℤ length_sq g)
         | inl s ↦ (≤F_trans (over (low_left a b (length_sq g))) s.0, ≤F_trans s.1 (over (high_right a b (length_sq g))))
         | inr s ↦ (≤F_trans (over (low_right a b (length_sq g))) s.0, ≤F_trans s.1 (over (high_left a b (length_sq g))))
       ];
-      low-taken = choose (lt_z b a) b a (λ z. Taken g lo hi (whole z /F nat_abs (length_sq g))) (λ _. high_corner) (λ _. low_corner);
+      low_taken = choose (lt_z b a) b a (λ z. Taken g lo hi (whole z /F nat_abs (length_sq g))) (λ _. high_corner) (λ _. low_corner);
       high_taken = choose (lt_z b a) a b (λ z. Taken g lo hi (whole z /F nat_abs (length_sq g))) (λ _. low_corner) (λ _. high_corner);
     }
       where
@@ -112,7 +112,7 @@ flat_holds : (g : Grade) (lo hi : List ℤ) → T (not (is_linear g && not (eq_z
 flat_holds g lo hi u = record {
   ordered = ≤ℤ_refl g.start;
   holds = λ p i. (≤F_trans (≈F_le (over_one (whole g.start))) (≈F_ge (level_flat g p u)), ≤F_trans (≈F_le (level_flat g p u)) (≈F_ge (over_one (whole g.start))));
-  low-taken = taken;
+  low_taken = taken;
   high_taken = taken;
 }
   where

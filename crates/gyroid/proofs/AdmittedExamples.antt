@@ -100,10 +100,10 @@ choice d e within = record {
   sine_error = sine_error;
   cosine_error = cosine_error;
   e = e;
-  w-between = record { above = record { le = le_z_yes tt }; below = record { le = le_z_yes tt } };
-  sine-within = three (λ i. AbsF (sine_error i) sine_tail) (decided tt tt) (decided tt tt) (decided tt tt);
-  cosine-within = three (λ i. AbsF (cosine_error i) cosine_tail) (decided tt tt) (decided tt tt) (decided tt tt);
-  e-within = within;
+  w_between = record { above = record { le = le_z_yes tt }; below = record { le = le_z_yes tt } };
+  sine_within = three (λ i. AbsF (sine_error i) sine_tail) (decided tt tt) (decided tt tt) (decided tt tt);
+  cosine_within = three (λ i. AbsF (cosine_error i) cosine_tail) (decided tt tt) (decided tt tt) (decided tt tt);
+  e_within = within;
 }
 
 chosen : Chosen network lows highs

@@ -209,7 +209,7 @@ module _
     second_same f k2 = second_alike ar (radii ar w) (radii ar v) radii_same f k2
 
     -- ---- the first-order term, of products of a size and a radius. The gradient that is found is at most 2 ^ 100 in size, and so is the slope
-    module _ (level : Interval) (slope : List Interval) {s : ℕ → Fraction} (slope-in : (i : ℕ) → i < 3 → In 100 (s i) (box_at slope i)) where
+    module _ (level : Interval) (slope : List Interval) {s : ℕ → Fraction} (slope_in : (i : ℕ) → i < 3 → In 100 (s i) (box_at slope i)) where
       abbrev j : Jet
       j = jet ar (leaf ar d) (centre v)
 
@@ -218,7 +218,7 @@ module _
       steep_small t = three (λ i. Small 102 (magnitude (box_at (minus ar j.gradient slope) i))) (entry 0 (lit< tt)) (entry 1 (lit< tt)) (entry 2 (lit< tt))
         where
           entry : (i : ℕ) → i < 3 → Small 102 (magnitude (difference ar (box_at j.gradient i) (box_at slope i)))
-          entry i b = magnitude_small (sub_encloses ar tt ((jet_holds ar d passed.above lo hi low-in high-in (chosen d lo hi)).gradient t i b) (slope-in i b))
+          entry i b = magnitude_small (sub_encloses ar tt ((jet_holds ar d passed.above lo hi low-in high-in (chosen d lo hi)).gradient t i b) (slope_in i b))
 
       spread_same : T j.found → spread ar (minus ar j.gradient slope) (radii ar w) ≡ spread ar (minus ar j.gradient slope) (radii ar v)
       unfolding spread reach

@@ -40,13 +40,13 @@ two_pi_between = record { above = ≤F_refl (value two_pi.lo); below = record { 
 pub chosen : (d : Description) (lo hi : List ℤ) → Chosen d lo hi
 chosen d lo hi = record {
   w = value two_pi.lo;
-  sine-error = λ i. zero_f;
-  cosine-error = λ i. zero_f;
+  sine_error = λ i. zero_f;
+  cosine_error = λ i. zero_f;
   e = zero_f;
-  w-between = two_pi_between;
-  sine-within = λ i b. zero_within (num_nonneg (le_z_yes tt));
-  cosine-within = λ i b. zero_within (num_nonneg (le_z_yes tt));
-  e-within = zero_within (≤F_trans (law.nonneg (k *F r 0) (k *F r 1) (k *F r 2)) (≈F_ge (law.scaled k (r 0) (r 1) (r 2))));
+  w_between = two_pi_between;
+  sine_within = λ i b. zero_within (num_nonneg (le_z_yes tt));
+  cosine_within = λ i b. zero_within (num_nonneg (le_z_yes tt));
+  e_within = zero_within (≤F_trans (law.nonneg (k *F r 0) (k *F r 1) (k *F r 2)) (≈F_ge (law.scaled k (r 0) (r 1) (r 2))));
 }
   where
     k : Fraction

@@ -57,7 +57,7 @@ module _ (ar : Arithmetic) where
 
     pub expansion_holds : JetHolds j v steep → TermHolds q e → Expands leaf w v steep e o
     unfolding expansion expanded bound
-    expansion_holds at-centre term l s L S level slope = finite (not (all_finite w))
+    expansion_holds at_centre term l s L S level slope = finite (not (all_finite w))
       where
         about : Residual
         about = held (sum ar (difference ar j.value L) (symmetric (sum ar (spread ar (minus ar j.gradient S) (radii ar w)) q).hi))
@@ -65,7 +65,7 @@ module _ (ar : Arithmetic) where
         found : (b : Bool) → (T b → T j.found) → HoldsIn (cond (not b) Residual.None about) (expanded_at v steep e l s o)
         found false t = tt
         found true t = second_order_lem ar v l e term.most steep s o (λ i. value (radius ar (ends lo hi i))) j.value L q j.gradient S (radii ar w)
-            (at-centre.value (t tt)) (at-centre.gradient (t tt)) level slope (λ i b. wider 20 tt (radii_in ar lo hi low-in high-in i b))
+            (at_centre.value (t tt)) (at_centre.gradient (t tt)) level slope (λ i b. wider 20 tt (radii_in ar lo hi low-in high-in i b))
             (λ i b. offset_within ar lo hi low-in high-in i b p inside) term.holds term.within
 
         finite : (b : Bool) → HoldsIn (cond b Residual.None (cond (not j.found) Residual.None about)) (expanded_at v steep e l s o)

@@ -103,11 +103,11 @@ unfolding Leaf.leaf
 leaf_lendable d =
     let t = compiled_threes in_use (compiled d.level) in
     record {
-      two-pi = refl;
+      two_pi_is = refl;
       sine = refl;
       cosine = refl;
-      tail-sine = refl;
-      tail-cosine = refl;
+      tail_sine_is = refl;
+      tail_cosine_is = refl;
       from = t.from;
       direction = t.direction;
       slope = t.slope;

@@ -56,7 +56,7 @@ module _ (ar : Arithmetic) where
       (d : Description) (passed : Passed d) (w : List Interval) (p m : Point)
       (p-in : (i : ℕ) → i < 3 → In 40 (in_units (p i)) (box_at w i))
       (m-in : (i : ℕ) → i < 3 → In 40 (in_units (m i)) (box_at w i))
-      (centre-in : (i : ℕ) → i < 3 → In 40 (in_units (m i)) (box_at (centre w) i))
+      (centre_in : (i : ℕ) → i < 3 → In 40 (in_units (m i)) (box_at (centre w) i))
       (v e : Fraction) (steep : ℕ → Fraction)
       (holds : Expands ar (leaf ar d) w v steep e (λ i. in_units (p i -F m i)))
     where
@@ -105,7 +105,7 @@ module _ (ar : Arithmetic) where
           → Has (expansion ar (leaf ar d) w (interval ar (grade_intervals ar C) (centre w)) S) (surface -F u)
       same_level S s q = affine_case (in_units (level d.level m)) u flat (interval ar (grade_intervals ar C) (centre w)) S
           (unsloped (in_units (level d.level m)) u (over_cong (lit< tt) q))
-          (interval_encloses ar d.level passed.level passed.apart m (centre w) centre-in) s
+          (interval_encloses ar d.level passed.level passed.apart m (centre w) centre_in) s
 
       -- on a ramp, about the centre
       abbrev rise : ℕ → Fraction
@@ -136,7 +136,7 @@ module _ (ar : Arithmetic) where
           (≈F_trans h (≈F_sym k))
       piece_case (PieceAnswer.Found Piece.Ramp) h k = affine_case (in_units (affine_level d.level m)) u (slope d.level)
           (affine ar (grade_intervals ar C) (centre w)) (piece_gradient (grade_intervals ar C) Piece.Ramp) (ramp_about (ramp_affine d.level p h))
-          (affine_encloses ar d.level passed.level passed.apart m (centre w) centre-in) (slope_in Piece.Ramp)
+          (affine_encloses ar d.level passed.level passed.apart m (centre w) centre_in) (slope_in Piece.Ramp)
       piece_case (PieceAnswer.Found Piece.End) h k = same_level (piece_gradient (grade_intervals ar C) Piece.End) (slope_in Piece.End) (≈F_trans h (≈F_sym k))
       piece_case PieceAnswer.None h k = across_case
 

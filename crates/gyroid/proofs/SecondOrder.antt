@@ -28,20 +28,20 @@ module _
     (ar : Arithmetic) (v l e R : Fraction) (d s o r : ℕ → Fraction)
     (X L Q : Interval) (G S W : List Interval)
     (value_in : In 100 v X) (gradient-in : (i : ℕ) → i < 3 → In 100 (d i) (box_at G i))
-    (level_in : In 100 l L) (slope-in : (i : ℕ) → i < 3 → In 100 (s i) (box_at S i))
-    (radius-in : (i : ℕ) → i < 3 → In 20 (r i) (box_at W i)) (within : (i : ℕ) → i < 3 → AbsF (o i) (r i))
+    (level_in : In 100 l L) (slope_in : (i : ℕ) → i < 3 → In 100 (s i) (box_at S i))
+    (radius_in : (i : ℕ) → i < 3 → In 20 (r i) (box_at W i)) (within : (i : ℕ) → i < 3 → AbsF (o i) (r i))
     (term_in : In 100 R Q) (second : AbsF e R)
   where
     -- the gradient less the slope, and the larger size of its ends
     steep : (i : ℕ) → i < 3 → In 102 (d i -F s i) (difference ar (box_at G i) (box_at S i))
-    steep i b = sub_encloses ar tt (gradient-in i b) (slope-in i b)
+    steep i b = sub_encloses ar tt (gradient-in i b) (slope_in i b)
 
     abbrev steepest : ℕ → Fraction
     steepest i = value (magnitude (difference ar (box_at G i) (box_at S i)))
 
     reach_in : (i : ℕ) → i < 3 → In 123 (steepest i *F r i) (reach (difference ar (box_at G i) (box_at S i)) (box_at W i))
     unfolding reach
-    reach_in i b = mul_encloses tt (point_encloses (magnitude (difference ar (box_at G i) (box_at S i))) (magnitude_small (steep i b))) (radius-in i b)
+    reach_in i b = mul_encloses tt (point_encloses (magnitude (difference ar (box_at G i) (box_at S i))) (magnitude_small (steep i b))) (radius_in i b)
 
     bound_in : In 131 (zero_f +F steepest 0 *F r 0 +F steepest 1 *F r 1 +F steepest 2 *F r 2 +F R) (sum ar (spread ar (minus ar G S) W) Q)
     unfolding spread minus

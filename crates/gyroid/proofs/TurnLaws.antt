@@ -47,7 +47,7 @@ unfolding of_bits
 two_pi_high = lit≤ tt
 
 pub two_pi_in : {w : Fraction} → w ∈ two_pi → In 3 w two_pi
-two_pi_in h = record { small-lo = two_pi_low; small-hi = two_pi_high; has = h }
+two_pi_in h = record { small_lo = two_pi_low; small_hi = two_pi_high; has = h }
 
 -- ---- a quarter
 pub quarter_in : In 0 (ratio (pos 1) 4 (lit< tt)) (point (b64 0x3fd0_0000_0000_0000))
@@ -97,8 +97,8 @@ module _ {u : Fraction} {U : Interval} (h : In 35 u U) (near : T (not (beyond U)
 
   pub near_in : In 0 u U
   near_in = record {
-    small-lo = abs_small 0 U.lo (small_finite 35 U.lo h.small_lo) (record { low = from; high = ≤F_trans (low h) (≤F_trans (high h) to) });
-    small-hi = abs_small 0 U.hi (small_finite 35 U.hi h.small_hi) (record { low = ≤F_trans from (≤F_trans (low h) (high h)); high = to });
+    small_lo = abs_small 0 U.lo (small_finite 35 U.lo h.small_lo) (record { low = from; high = ≤F_trans (low h) (≤F_trans (high h) to) });
+    small_hi = abs_small 0 U.hi (small_finite 35 U.hi h.small_hi) (record { low = ≤F_trans from (≤F_trans (low h) (high h)); high = to });
     has = h.has;
   }
 
@@ -147,7 +147,7 @@ module _ (ar : Arithmetic) where
   -- ---- the turn
   module _
       (d : Description) {t w : Fraction} {I : Interval} (h : In 23 t I) (between : w ∈ two_pi)
-      {e f : Fraction} (e-within : AbsF e sine_tail) (f-within : AbsF f cosine_tail) where
+      {e f : Fraction} (e_within : AbsF e sine_tail) (f-within : AbsF f cosine_tail) where
     abbrev U : Interval
     U = reduced ar I (quarter_number (mid I)) two_pi
 
@@ -156,7 +156,7 @@ module _ (ar : Arithmetic) where
 
     sine_in : In 0 u U → In 36 (sine_polynomial u +F e) (sine_at ar (leaf ar d) U)
     unfolding sine_polynomial sine_at leaf
-    sine_in h = add_encloses ar tt (mul_encloses tt (horner_in sine_term sine_encloses (square_encloses tt h)) h) (tail_in 19 e-within)
+    sine_in h = add_encloses ar tt (mul_encloses tt (horner_in sine_term sine_encloses (square_encloses tt h)) h) (tail_in 19 e_within)
 
     cosine_in : In 0 u U → In 36 (cosine_polynomial u +F f) (cosine_at ar (leaf ar d) U)
     unfolding cosine_polynomial cosine_at leaf

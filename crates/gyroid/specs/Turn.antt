@@ -44,7 +44,7 @@ turned m s c =
 module _ (ar : Arithmetic) where
   -- the quarter number taken off, as an angle; each product of points steps
   unfoldable pub reduced : Interval → ℤ → Interval → Interval
-  reduced t q twoPi = product (difference ar t (product (point (nearest q 1)) (point (b64 0x3fd0_0000_0000_0000)))) twoPi
+  reduced t q two_pi = product (difference ar t (product (point (nearest q 1)) (point (b64 0x3fd0_0000_0000_0000)))) two_pi
 
   -- Horner's rule from the last of nine coefficients: n steps
   unfoldable pub horner : List Interval → Interval → ℕ → Interval

@@ -1,5 +1,7 @@
 // The surfaces over a description: what refuses it, the leaf that it compiles to, the jet and the residual over a box. Here stand the types.
 // Each function equals its definition in specs/, operation by operation.
+#![tactic(auto)]
+
 pub mod entries; // a description's limits and refusals
 pub mod leaf; // the compiled leaf
 pub mod turns; // sine and cosine of one turn coordinate
@@ -16,7 +18,7 @@ use grade::{Grade, GradeDef, GradeIntervals};
 use interval::Interval;
 
 // The frame's rotation as a quaternion, and its translation in ticks. Only the part frame is accepted.
-#[derive(Drop)]
+#[derive(Clone, Copy)]
 pub struct Frame {
     pub w: i64,
     pub x: i64,
@@ -26,7 +28,7 @@ pub struct Frame {
 }
 
 // What a planner enters, in whole ticks and level counts. Kind 0 is network, 1 sheet, 2 primitive.
-#[derive(Drop)]
+#[derive(Clone, Copy)]
 pub struct Description {
     pub period: i64,
     pub kind: i64,
@@ -35,14 +37,14 @@ pub struct Description {
 }
 
 // A kind's surface, with X = 2πx/a and likewise Y and Z.
-#[derive(Drop)]
+#[derive(Clone, Copy)]
 pub enum Surface {
     Network, // sin X cos Y + sin Y cos Z + sin Z cos X
     Primitive, // cos X + cos Y + cos Z
 }
 
 // A compiled leaf. Lengths are in millimetres and levels plain; `interval_level` and `fast_level` serve a constant level only.
-#[derive(Drop)]
+#[derive(Clone, Copy)]
 pub struct Gyroid {
     pub turns: Interval, // 1/a
     pub two_pi: Interval,
@@ -63,35 +65,35 @@ pub struct Gyroid {
 }
 
 // The number of the refusal, 0 for none, and the leaf.
-#[derive(Drop)]
+#[derive(Clone, Copy)]
 pub struct Compiled {
     pub refusal: u32,
     pub leaf: Gyroid,
 }
 
 // Sine and cosine of one angle.
-#[derive(Drop)]
+#[derive(Clone, Copy)]
 pub struct Circle {
     pub sine: Interval,
     pub cosine: Interval,
 }
 
 // Sine and cosine of one turn coordinate, or nothing beyond the reduction's range.
-#[derive(Drop)]
+#[derive(Clone, Copy)]
 pub enum Turn {
     Found(Interval, Interval),
     None,
 }
 
 // Sine and cosine of the three turn coordinates of a point: of x, then of y, then of z.
-#[derive(Drop)]
+#[derive(Clone, Copy)]
 pub enum Waves {
     Found(Interval, Interval, Interval, Interval, Interval, Interval),
     None,
 }
 
 // A value and its gradient. Where `found` is false or `refusal` is not 0, all else is zero.
-#[derive(Drop)]
+#[derive(Clone, Copy)]
 pub struct Jet {
     pub refusal: u32,
     pub found: bool,
@@ -100,7 +102,7 @@ pub struct Jet {
 }
 
 // An axis' share of a linear level's t, over the interval of a box on it and at the interval's middle. Of a constant level both are zero.
-#[derive(Drop)]
+#[derive(Clone, Copy)]
 pub struct Shares {
     pub along: Interval,
     pub middle: Interval,
@@ -108,7 +110,7 @@ pub struct Shares {
 
 // What the interval of a box on one axis gives to the residual: half its width, sine and cosine at its middle, and the level's shares.
 // Where `found` is false, all else is zero.
-#[derive(Drop)]
+#[derive(Clone, Copy)]
 pub struct Part {
     pub found: bool,
     pub radius: f64,
@@ -119,7 +121,7 @@ pub struct Part {
 
 // The level about the centre of a box: its value there and its slope; across an anchor plane both are zero, and `range` is the level over
 // the whole box.
-#[derive(Drop)]
+#[derive(Clone, Copy)]
 pub struct LevelAbout {
     pub at: Interval,
     pub slope: [Interval; 3],
@@ -128,13 +130,13 @@ pub struct LevelAbout {
 }
 
 // The residual g − c over a box.
-#[derive(Drop)]
+#[derive(Clone, Copy)]
 pub enum Residual {
     Enclosure { lo: f64, hi: f64 },
     None,
 }
 
-#[derive(Drop)]
+#[derive(Clone, Copy)]
 pub enum State {
     Inside,
     Outside,

@@ -20,7 +20,7 @@ rounds_neg r = record {
   sign = not r.sign;
   top = r.top;
   bottom = r.bottom;
-  bottom-pos = r.bottom_pos;
+  bottom_pos = r.bottom_pos;
   is = ap neg r.is ∙ round_neg r.sign r.top r.bottom;
   same = ≈F_trans (record { eq = ap (λ (z : ℤ). z *ℤ pos r.bottom) (signed_not r.sign r.top) }) (≈F_trans (≈F_sym (neg_ratio (ratio (signed r.sign r.top) r.bottom r.bottom_pos))) (neg_cong_f r.same));
 }

@@ -1,6 +1,8 @@
 // Intervals of two doubles, document 01's "The interval stand-in": an end is stepped outward after an operation, but for the exact end of a sum
 // or a difference (document 02, L2).
 // Each function equals its definition in specs/ for all input; proofs/Encloses.antt says what the results hold.
+#![tactic(auto)]
+
 ghost use Rattle.std.specs.Prelude.{◌≡◌};
 ghost use Rattle.interval.specs.Interval.{point, two_pi, Narrow, sum, difference, product, quotient, negation, square, mid, abs, magnitude, imin};
 ghost use Rattle.interval.specs.Interval.{imax, clamp01};
@@ -17,7 +19,7 @@ use sums::{exact_sum, unless_exact};
 
 // Two doubles, low ≤ high. The type does not enforce the order: a caller's doubles are tested where they come in, and every operation keeps
 // it (proofs/Ordered.antt).
-#[derive(Drop)]
+#[derive(Clone, Copy)]
 pub struct Interval {
     pub lo: f64,
     pub hi: f64,

@@ -1,11 +1,13 @@
 // Replays texts that were answered elsewhere: asks what program `cells` prints of each, and prints how many were seen and how many differ. One
 // that differs is named by its place, counted from 0.
+#![tactic(auto)]
+
 mod case; // a text of the list and its answer, read and tried
 
 use case::Seen;
 use libc::STDOUT_FILENO;
 
-#[derive(Drop)]
+#[derive(Clone, Copy)]
 struct Tally {
     seen: u64,
     bad: u64,

@@ -36,18 +36,18 @@ all false y z e = false_true e
 -- one slot was made sure after another
 pub ready_three : (k l m : List ℕ) (b : ShiftedBox) (p : Places) → Slots p → Holds k p.x b.lx b.hx
     → Others p.y k l → Holds l p.y b.ly b.hy → Others p.z l m → Holds m p.z b.lz b.hz → Ready m b p
-ready_three k l m b p s on-x other-y on-y other-z on-z = record {
-  on-x = other-z p.x _ _ (inl (omega (arith, s.of_x, s.from_z))) (other-y p.x _ _ (inl (omega (arith, s.of_x, s.from_y))) on-x);
-  on-y = other-z p.y _ _ (inl (omega (arith, s.of_y, s.from_z))) on-y;
-  on-z = on-z;
+ready_three k l m b p s on_x other-y on_y other-z on_z = record {
+  on_x = other-z p.x _ _ (inl (omega (arith, s.of_x, s.from_z))) (other-y p.x _ _ (inl (omega (arith, s.of_x, s.from_y))) on_x);
+  on_y = other-z p.y _ _ (inl (omega (arith, s.of_y, s.from_z))) on_y;
+  on_z = on_z;
 }
 
 pub ready_tested : (k : List ℕ) (b : ShiftedBox) (p : Places) {x y z : Bool} → x ≡ (eqb (low_in k p.x) b.lx && eqb (high_in k p.x) b.hx)
     → y ≡ (eqb (low_in k p.y) b.ly && eqb (high_in k p.y) b.hy) → z ≡ (eqb (low_in k p.z) b.lz && eqb (high_in k p.z) b.hz)
     → (x && y && z) ≡ true → Ready k b p
 ready_tested k b p {x} {y} {z} ex ey ez e =
-    let (on-x, on-y, on-z) = all x y z e in
-    record { on-x = tested k p.x _ _ ex on-x; on-y = tested k p.y _ _ ey on-y; on-z = tested k p.z _ _ ez on-z }
+    let (on_x, on_y, on_z) = all x y z e in
+    record { on_x = tested k p.x _ _ ex on_x; on_y = tested k p.y _ _ ey on_y; on_z = tested k p.z _ _ ez on_z }
 
 module _ (g : Gyroid) (k : List ℕ) (v : List Float) (b : ShiftedBox) (p : Places) (good : Good (box_of b)) (remembers : Remembers g k v)
     (slots : Slots p) (ready : Ready k b p) where
@@ -67,7 +67,7 @@ module _ (g : Gyroid) (k : List ℕ) (v : List Float) (b : ShiftedBox) (p : Plac
   pub radii_are : Found v (10 * p.x) (10 * p.y) (10 * p.z) → Radii v b (10 * p.x) (10 * p.y) (10 * p.z)
   radii_are e =
       let (x, y, z) = all (part_at v (10 * p.x)).found (part_at v (10 * p.y)).found (part_at v (10 * p.z)).found e in
-      record { on-x = own 0 _ part_x x; on-y = own 1 _ part_y y; on-z = own 2 _ part_z z }
+      record { on_x = own 0 _ part_x x; on_y = own 1 _ part_y y; on_z = own 2 _ part_z z }
     where
       own : {q : Part} (a : ℕ) (c : Interval) → q ≡ part g a c → q.found ≡ true → q.radius ≡ radius c
       own a c h f =

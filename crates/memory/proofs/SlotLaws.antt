@@ -32,7 +32,7 @@ two_stores l i a b =
 module _ (k : List ℕ) (s low high : ℕ) where
   holds_own : 2 * s + 2 ≤ length k → Holds (written k s low high) s low high
   holds_own h = record {
-    low-is = ap (λ (j : ℕ). get_or (written k s low high) j 0) (same (2 * s)) ∙ within 0 (low ∷ high ∷ []) k (2 * s) 0 (omega arith) h;
+    low_is = ap (λ (j : ℕ). get_or (written k s low high) j 0) (same (2 * s)) ∙ within 0 (low ∷ high ∷ []) k (2 * s) 0 (omega arith) h;
     high_is = within 0 (low ∷ high ∷ []) k (2 * s) 1 (omega arith) h;
   }
     where
@@ -46,7 +46,7 @@ module _ (k : List ℕ) (s low high : ℕ) where
   high_other t w = beside 0 (low ∷ high ∷ []) k (2 * s) (2 * t + 1) (elim w [ inl u ↦ inl (omega arith) | inr u ↦ inr (omega arith) ])
 
   holds_others : Others s k (written k s low high)
-  holds_others t l h w e = record { low-is = low_other t w ∙ e.low_is; high_is = high_other t w ∙ e.high_is }
+  holds_others t l h w e = record { low_is = low_other t w ∙ e.low_is; high_is = high_other t w ∙ e.high_is }
 
 pub false_true : {A : Type 0} → false ≡ true → A
 false_true e = let z : ◌≡◌ {A = ℕ} 0 1 = ap (λ (t : Bool). cond t 1 0) e in absurd (omega arith)
@@ -55,7 +55,7 @@ false_true e = let z : ◌≡◌ {A = ℕ} 0 1 = ap (λ (t : Bool). cond t 1 0) 
 pub tested : (k : List ℕ) (s low high : ℕ) {t : Bool} → t ≡ (eqb (low_in k s) low && eqb (high_in k s) high) → t ≡ true → Holds k s low high
 tested k s low high e f =
     let (a, b) = both (eqb (low_in k s) low) (eqb (high_in k s) high) (sym e ∙ f) in
-    record { low-is = eqb-true (low_in k s) low a; high_is = eqb-true (high_in k s) high b }
+    record { low_is = eqb-true (low_in k s) low a; high_is = eqb-true (high_in k s) high b }
   where
     both : (a b : Bool) → (a && b) ≡ true → (a ≡ true) × (b ≡ true)
     both true b e = (refl, e)

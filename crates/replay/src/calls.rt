@@ -6,7 +6,7 @@ ghost use Rattle.std.specs.Prelude.{◌≤◌, length};
 use crate::tally::Tally;
 use crate::words::{bounds, count, entries, float_of, offset, read_words, same, small};
 
-#[derive(Drop)]
+#[derive(Clone, Copy)]
 struct Head {
     call: u8,
     given: usize,
@@ -15,7 +15,7 @@ struct Head {
     piece: u32,
 }
 
-#[derive(Drop)]
+#[derive(Clone, Copy)]
 struct Run {
     description: [i64; 18],
     tally: Tally,

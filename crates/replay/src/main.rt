@@ -1,4 +1,6 @@
 // Replays lists of answers that were worked out elsewhere, and prints of each list how many answers were seen and how many differ.
+#![tactic(auto)]
+
 mod words; // what eight bytes stand for
 mod tally; // what was seen
 mod intervals; // the interval layer's list

@@ -1,7 +1,7 @@
 // How many cases were seen and how many differ; one that differs is named by its list and its place, counted from 0.
 use libc::STDOUT_FILENO;
 
-#[derive(Drop)]
+#[derive(Clone, Copy)]
 pub(crate) struct Tally {
     pub seen: u64,
     pub bad: u64,

@@ -66,7 +66,7 @@ pub(crate) fn same(x: f64, y: f64) -> bool {
 
 // ---- the words of a case
 // As many as a case may have, 18 of a triangle's corners and 24 of derivatives; `bytes` says how many bytes the list still had of them.
-#[derive(Drop)]
+#[derive(Clone, Copy)]
 pub(crate) struct Words {
     pub bytes: usize,
     pub at: [u64; 42],

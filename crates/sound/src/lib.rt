@@ -1,5 +1,7 @@
 // Reading a table that anyone may have written: whether it is sound, by one pass along its chain. A chain that keeps to the slots 1 to n
 // for n steps and then comes to zero has visited each of them once, so no slot is marked.
+#![tactic(auto)]
+
 ghost use Rattle.std.specs.Prelude.{◌≡◌, true, ◌+◌, ◌*◌, ◌≤◌, length};
 ghost use Rattle.tree.specs.Box.{box_of};
 ghost use Rattle.table.specs.Read.{record_in};

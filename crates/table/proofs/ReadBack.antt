@@ -96,7 +96,7 @@ told len h ms f g e n =
     let on : drop 32 t ≡ cells ++ zeros = ap (λ (x : List ℕ). drop 32 x) front ∙ drop_at head (cells ++ zeros) 32 (length_head h) in
     let all = chained t zeros (length ms) 1 ms g (omega arith) (omega (arith, n, f.cells)) on in
     record {
-      head-is = read;
+      head_is = read;
       records_are = (λ i. chain (many i) t (first i)) ∙ all.records_are;
       goes_on = λ slot l h. goes_in t zeros (length ms) 1 ms slot l (omega arith) (omega arith) (omega (arith, n, f.cells)) on;
       ends = λ p. (λ i. chain_end (many i) t (first i)) ∙ all.ends p;

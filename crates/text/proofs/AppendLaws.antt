@@ -11,14 +11,14 @@ use Rattle.text.specs.Listing.{Front}
 use Rattle.text.specs.Appended.{Appended}
 
 pub byte_appended : (l : List ℕ) (at b : ℕ) → Appended l at (b ∷ []) (set l at b) (at + 1)
-byte_appended l at b = record { written = refl; next-is = refl }
+byte_appended l at b = record { written = refl; next_is = refl }
 
 -- a text, and then another behind it
 pub then_appended : {l m n : List ℕ} {at next end : ℕ} (s t : List ℕ) → Appended l at s m next → Appended m next t n end → Appended l at (s ++ t) n end
 then_appended {l} {at} s t a b =
     record {
       written = sets_then l at s t a.written b.written a.next_is;
-      next-is = omega (arith, a.next_is, b.next_is, length-append s t);
+      next_is = omega (arith, a.next_is, b.next_is, length-append s t);
     }
 
 -- the same text in other words

@@ -5,21 +5,21 @@ ghost use Rattle.text.specs.Line.{byte_at, is_digit, digits_at, with_minus, some
 use crate::ascii::{MINUS, NEWLINE, NINE, NOUGHT, SPACE};
 
 // A line's numbers, in its order; seventeen zeros where the text is no line.
-#[derive(Drop)]
+#[derive(Clone, Copy)]
 pub struct Line {
     pub ok: bool,
     pub numbers: [i64; 17],
 }
 
 // The value of some digits, and the index after them.
-#[derive(Drop)]
+#[derive(Clone, Copy)]
 struct Digits {
     value: usize,
     next: usize,
 }
 
 // A number and the index after it, or none.
-#[derive(Drop)]
+#[derive(Clone, Copy)]
 enum Number {
     Found(i64, usize),
     Nothing,

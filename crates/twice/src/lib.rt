@@ -1,6 +1,8 @@
 // The plain walk in two passes, kept for the benchmark alone: it counts the whole tree before it writes a byte. Document 02: "A benchmark on
 // a core of 100,000 cells or more shows at most two thirds of the time of a plain two-pass walk kept for it." It promises what the walk
 // promises of its number and of its table.
+#![tactic(auto)]
+
 pub mod calls; // the walk, counted and then written
 
 ghost use Rattle.std.specs.Prelude.{◌≡◌, length};

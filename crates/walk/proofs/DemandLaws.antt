@@ -114,7 +114,7 @@ module _ (ar : Arithmetic) (d : Description) (accepted : Accepted d) (D : ℕ) (
     undecided : state_number (state_at ar (leaf ar d) c.box) ≡ 3 → Undecided ar d D (record_of ar (leaf ar d) c)
     undecided e =
         let u = number_unsettled (state_at ar (leaf ar d) c.box) e in
-        record { not-settled = u; ended = ⊎_elim (λ k. inl k) (λ s. inr (cube_stops (state_at ar (leaf ar d) c.box) (one_cube c.box) u s)) m.why }
+        record { not_settled = u; ended = ⊎_elim (λ k. inl k) (λ s. inr (cube_stops (state_at ar (leaf ar d) c.box) (one_cube c.box) u s)) m.why }
 
     fits : D ≤ 24 → Fits (record_of ar (leaf ar d) c)
     fits shallow = good_fits (record_of ar (leaf ar d) c) (number_below (state_at ar (leaf ar d) c.box)) (omega (arith, m.depth_le)) m.good
@@ -195,26 +195,26 @@ module _ (ar : Arithmetic) (d : Description) (accepted : Accepted d) (D : ℕ) (
         outside = subst⁻¹ (Every (λ m. m.state ≡ 2 → AllAboveZero d m.box)) r.records_are (every ar (leaf ar d) _ _ above_zero cs each);
         unsettled = subst⁻¹ (Every (λ m. (m.state ≡ 3 → Undecided ar d D m) × (Undecided ar d D m → m.state ≡ 3))) r.records_are
             (every ar (leaf ar d) _ _ (λ c m. (undecided c m, unsettled_number c)) cs each);
-        walk-order = subst⁻¹ (λ (l : List Record). Pairwise (λ m c. (m.box ≡ c.box) × (m.depth ≡ c.depth)) l cs) r.records_are
+        walk_order = subst⁻¹ (λ (l : List Record). Pairwise (λ m c. (m.box ≡ c.box) × (m.depth ≡ c.depth)) l cs) r.records_are
             (pairwise ar (leaf ar d) _ _ (λ c m. (refl, refl)) cs each);
         marked = subst⁻¹ (Every (λ m. (m.state ≡ 3 → ⊥) → (m.state ≡ 1) ⊎ (m.state ≡ 2))) r.records_are
             (every ar (leaf ar d) _ _ (λ c m. number_other (state_at ar (leaf ar d) c.box)) cs each);
         zeros = r.zeros;
         evaluated = omega (arith, evaluated_read, cells_read, box_count_leaves (settled ar (leaf ar d)) axis D b);
-        evaluated-most = omega (
+        evaluated_most = omega (
           arith,
           evaluated_read,
           box_count_leaves (settled ar (leaf ar d)) axis D b,
           leaves_le (settled ar (leaf ar d)) axis D b,
           two-pow-succ D,
         );
-        evaluated-tree = evaluated_read;
+        evaluated_tree = evaluated_read;
         first = ap (λ (h : Head). h.first) r.head_is;
         ends = r.ends cells_some;
         solid = solid_read;
         rest = omega (arith, solid_read, ap (λ (h : Head). h.«open») r.head_is, solid_most);
         sound = is_sound;
-        layer-area = λ z. ap (crossing z) r.records_are ∙ crossing_box ar (leaf ar d) axis fair D b good z;
+        layer_area = λ z. ap (crossing z) r.records_are ∙ crossing_box ar (leaf ar d) axis fair D b good z;
       }
 
     -- DEMAND 3 of what an accepted walk leaves

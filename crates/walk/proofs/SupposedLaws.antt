@@ -70,8 +70,8 @@ module _ (ar : Arithmetic) (d : Description) (lo hi : List ℤ) (D : ℤ) (rule 
         lows = low;
         highs = high;
         spans = h.good.spans;
-        depth-least = least D h.depth_sign;
-        depth-most = most D h.depth_most;
+        depth_least = least D h.depth_sign;
+        depth_most = most D h.depth_most;
         room = omega (arith, room);
       }
     where

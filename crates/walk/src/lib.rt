@@ -1,5 +1,7 @@
 // The walk over a part box: a box is halved until it is settled, one tick cube, or at the last depth, and its cells are written to a lent
 // table. Here stand the types. `walk` is the public call.
+#![tactic(auto)]
+
 pub mod ties; // the axis that ties go to
 mod visit; // a box of the tree: what is done at it, and its halves
 mod tally; // what a cell counts, and two halves
@@ -13,28 +15,28 @@ use memory::Places;
 use tree::{Axis, ShiftedBox};
 
 // Where spans tie: to the axis of a graded level, which is the default, or to the lowest axis.
-#[derive(Drop)]
+#[derive(Clone, Copy)]
 pub enum TieRule {
     GradeAxis,
     LowestAxis,
 }
 
 // A box of the tree, and where its sides are looked up.
-#[derive(Drop)]
+#[derive(Clone, Copy)]
 pub struct Node {
     pub b: ShiftedBox,
     pub p: Places,
 }
 
 // A box is a cell, with its state, or it is halved.
-#[derive(Drop)]
+#[derive(Clone, Copy)]
 pub enum Step {
     Cell(State),
     Halves(Axis),
 }
 
 // The cells of a tree, its boxes, and the tick cubes of its inside cells.
-#[derive(Drop)]
+#[derive(Clone, Copy)]
 pub struct Counted {
     pub cells: usize,
     pub evaluated: usize,
@@ -42,7 +44,7 @@ pub struct Counted {
 }
 
 // The cells of a tree are written, or the table has no slot for one of them.
-#[derive(Drop)]
+#[derive(Clone, Copy)]
 pub enum Filled {
     Done(Counted),
     Full,
