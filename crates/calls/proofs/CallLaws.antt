@@ -1,5 +1,5 @@
 -- What the proofs of the public calls share: what a call owes the functions that it calls, and what its answer says. Assumes nothing.
-use mathlib.Core.Path.{◌≡◌, refl, ap, subst⁻¹}
+use mathlib.Core.Path.{◌≡◌, refl, ap, ap₂, ◌∙◌, subst⁻¹}
 use mathlib.Core.Bool.{Bool, true, false, cond, not, ◌&&◌}
 use mathlib.Core.List.{List, [], ◌∷◌}
 use Prim.Native.Nat.{ℕ}
@@ -23,6 +23,7 @@ use Rattle.limits.proofs.TickLaws.{both}
 use Rattle.grade.proofs.EntryLaws.{ticks_within}
 use Rattle.grade.proofs.PieceLaws.{exact_piece_says}
 use Rattle.limits.proofs.RefusalLaws.{none_first, none_last, kept, neither}
+use Rattle.gyroid.specs.declared.Compiled.{Compiled}
 use Rattle.gyroid.specs.declared.Description.{Description}
 use Rattle.gyroid.specs.declared.Residual.{Residual}
 use Rattle.gyroid.specs.declared.State.{State}
@@ -30,9 +31,10 @@ use Rattle.gyroid.specs.Refusals.{refusal, ends_within, all_finite}
 use Rattle.gyroid.specs.Fits.{Accepted}
 use Rattle.gyroid.specs.Residual.{state_number}
 use Rattle.gyroid.specs.Settles.{Holds, Settles}
+use Rattle.gyroid.specs.FunctionsInUse.{certified}
 use Rattle.gyroid.specs.InUse.{leaf, residual, affine_residual, box_state}
 use Rattle.gyroid.proofs.AcceptedLaws.{accepted}
-use Rattle.gyroid.proofs.LeafLaws.{leaf_grade, turns_small}
+use Rattle.gyroid.proofs.LeafLaws.{number_is, leaf_grade, turns_small}
 use Rattle.gyroid.proofs.InfiniteLaws.{residual_none, affine_residual_none, box_state_unsettled}
 use Rattle.gyroid.proofs.AlikeLaws.{residual_same, state_same}
 use Rattle.gyroid.proofs.EnclosureLaws.{residual_holds, state_settles}
@@ -43,7 +45,20 @@ use Rattle.calls.specs.Fits.{FastFits, Near}
 use Rattle.calls.specs.Calls.{enclosure_said, level_piece_said, residual_answer, residual_values, piece_answer, piece_values, point_box}
 use Rattle.calls.specs.Calls.{level_piece_refusal, PieceSays, by_rows, residual_call, EnclosureHolds, affine_residual_call, box_state_call, StateSettles}
 
+-- ---- the number that a call tests: the description's, then the input's
+pub call_refusal : (d : Description) {m : Compiled} {n f k : ℕ} → m ≡ certified d → n ≡ (m.refusal or_else f) → f ≡ k → n ≡ (refusal d or_else k)
+call_refusal d made joined input = joined ∙ ap₂ ◌or_else◌ (number_is d made) input
+
 -- ---- what `level_piece` has tested
+pub piece_refusal :
+    (d : Description) (lo hi : List ℤ) {m : Compiled} {a b t : Bool} {l o k n : ℕ} →
+    m ≡ certified d → a ≡ ticks lo → b ≡ ticks hi → l ≡ refused (not (a && b)) 1 →
+    t ≡ above lo hi → o ≡ refused t 6 → k ≡ (m.refusal or_else o) → n ≡ (l or_else k) → n ≡ level_piece_refusal d lo hi
+unfolding level_piece_refusal
+piece_refusal d lo hi made low high limits over order rest all =
+    all ∙ ap₂ ◌or_else◌ (limits ∙ (λ i. refused (not (low i && high i)) 1))
+    (call_refusal d made rest (order ∙ (λ i. refused (over i) 6)))
+
 pub record PieceAccepted (d : Description) (lo hi : List ℤ) : Type 0 where
   pub description : refusal d ≡ 0
   pub low : Within3 1048576 lo
@@ -140,6 +155,7 @@ unfolding box_refusal all_near
 near p e =
     let (_, f) = none_first (not (all_ordered (point_box p))) 8 (refused (not (all_near (point_box p))) 10) e in
     let t = kept (all_near (point_box p)) (none_last (not (all_near (point_box p))) 9 f) in
-    let (h, z) = both (ends_within farthest (point (point_at p 0)) && ends_within farthest (point (point_at p 1))) (ends_within farthest (point (point_at p 2))) t in
-    let (x, y) = both (ends_within farthest (point (point_at p 0))) (ends_within farthest (point (point_at p 1))) h in
+    let within : ℕ → Bool = λ i. ends_within farthest (point (point_at p i)) in
+    let (h, z) = both (within 0 && within 1) (within 2) t in
+    let (x, y) = both (within 0) (within 1) h in
     record { x = near_point (point_at p 0) x; y = near_point (point_at p 1) y; z = near_point (point_at p 2) z }

@@ -1,7 +1,7 @@
-// The public calls as functions of C, on numbers and lent slices. A description is 18 whole numbers in document 01's order; a box of whole
-// ticks is three lows and three highs; a box of doubles is the low and the high end of each axis; a triangle is three such boxes. Each
-// call returns a status: 0 where its values stand at the front of `out`, the documents' number where it refuses, 100 where nothing is
-// found, 101 where a slice has the wrong length. Nothing but those values is written.
+// The public calls on numbers and lent slices, which crate capi_c exports to C. A description is 18 whole numbers in document 01's order; a
+// box of whole ticks is three lows and three highs; a box of doubles is the low and the high end of each axis; a triangle is three such
+// boxes. Each call returns a status: 0 where its values stand at the front of `out`, the documents' number where it refuses, 100 where
+// nothing is found, 101 where a slice has the wrong length. Nothing but those values is written.
 #![tactic(auto)]
 
 pub mod lengths; // what the lengths of the lent slices refuse, and the rule of a walk
@@ -31,8 +31,7 @@ use limits::refusals::{or_else, refused};
 use walk::calls::walk;
 
 // 1 or 0.
-#[unsafe(no_mangle)]
-pub extern "C" fn gyroid_graded(description: &[i64], out: &mut [i64]) -> u32
+pub fn gyroid_graded(description: &[i64], out: &mut [i64]) -> u32
     ensures answer { result ≡ status (exports.graded description.now (length out.old)) }
     ensures left { out.new ≡ written out.old (exports.graded description.now (length out.old)) }
 {
@@ -44,8 +43,7 @@ pub extern "C" fn gyroid_graded(description: &[i64], out: &mut [i64]) -> u32
 }
 
 // 1 or 0.
-#[unsafe(no_mangle)]
-pub extern "C" fn gyroid_saturated(description: &[i64], out: &mut [i64]) -> u32
+pub fn gyroid_saturated(description: &[i64], out: &mut [i64]) -> u32
     ensures answer { result ≡ status (exports.saturated description.now (length out.old)) }
     ensures left { out.new ≡ written out.old (exports.saturated description.now (length out.old)) }
 {
@@ -57,8 +55,7 @@ pub extern "C" fn gyroid_saturated(description: &[i64], out: &mut [i64]) -> u32
 }
 
 // The axis, then the positions of the anchors in ticks.
-#[unsafe(no_mangle)]
-pub extern "C" fn gyroid_planes(description: &[i64], out: &mut [i64]) -> u32
+pub fn gyroid_planes(description: &[i64], out: &mut [i64]) -> u32
     ensures answer { result ≡ status (exports.planes description.now (length out.old)) }
     ensures left { out.new ≡ written out.old (exports.planes description.now (length out.old)) }
 {
@@ -69,8 +66,7 @@ pub extern "C" fn gyroid_planes(description: &[i64], out: &mut [i64]) -> u32
     put_planes(planes(describe(description)), out)
 }
 
-#[unsafe(no_mangle)]
-pub extern "C" fn gyroid_curvature(description: &[i64], out: &mut [f64]) -> u32
+pub fn gyroid_curvature(description: &[i64], out: &mut [f64]) -> u32
     ensures answer { result ≡ status (exports.curvature description.now (length out.old)) }
     ensures left { out.new ≡ written out.old (exports.curvature description.now (length out.old)) }
 {
@@ -81,8 +77,7 @@ pub extern "C" fn gyroid_curvature(description: &[i64], out: &mut [f64]) -> u32
     put_enclosure(curvature(describe(description)), out)
 }
 
-#[unsafe(no_mangle)]
-pub extern "C" fn gyroid_lipschitz(description: &[i64], out: &mut [f64]) -> u32
+pub fn gyroid_lipschitz(description: &[i64], out: &mut [f64]) -> u32
     ensures answer { result ≡ status (exports.lipschitz description.now (length out.old)) }
     ensures left { out.new ≡ written out.old (exports.lipschitz description.now (length out.old)) }
 {
@@ -94,8 +89,7 @@ pub extern "C" fn gyroid_lipschitz(description: &[i64], out: &mut [f64]) -> u32
 }
 
 // The lower numerator, the higher, and their denominator, in level counts.
-#[unsafe(no_mangle)]
-pub extern "C" fn gyroid_grade_range(description: &[i64], bounds: &[i64], out: &mut [i64]) -> u32
+pub fn gyroid_grade_range(description: &[i64], bounds: &[i64], out: &mut [i64]) -> u32
     ensures answer { result ≡ status (exports.grade_range description.now bounds.now (length out.old)) }
     ensures left { out.new ≡ written out.old
         (exports.grade_range description.now bounds.now (length out.old)) }
@@ -115,8 +109,7 @@ pub extern "C" fn gyroid_grade_range(description: &[i64], bounds: &[i64], out: &
 }
 
 // 0 Start, 1 Ramp, 2 End.
-#[unsafe(no_mangle)]
-pub extern "C" fn gyroid_level_piece(description: &[i64], bounds: &[i64], out: &mut [i64]) -> u32
+pub fn gyroid_level_piece(description: &[i64], bounds: &[i64], out: &mut [i64]) -> u32
     ensures answer { result ≡ status (exports.level_piece description.now bounds.now (length out.old)) }
     ensures left { out.new ≡ written out.old
         (exports.level_piece description.now bounds.now (length out.old)) }
@@ -136,8 +129,7 @@ pub extern "C" fn gyroid_level_piece(description: &[i64], bounds: &[i64], out: &
 }
 
 // The value, then the gradient.
-#[unsafe(no_mangle)]
-pub extern "C" fn gyroid_jet(description: &[i64], world: &[f64], out: &mut [f64]) -> u32
+pub fn gyroid_jet(description: &[i64], world: &[f64], out: &mut [f64]) -> u32
     ensures answer { result ≡ status (exports.jet description.now world.now (length out.old)) }
     ensures left { out.new ≡ written out.old
         (exports.jet description.now world.now (length out.old)) }
@@ -149,8 +141,7 @@ pub extern "C" fn gyroid_jet(description: &[i64], world: &[f64], out: &mut [f64]
     put_jet(jet(describe(description), world_at(world, 0)), out)
 }
 
-#[unsafe(no_mangle)]
-pub extern "C" fn gyroid_affine_jet(description: &[i64], world: &[f64], out: &mut [f64]) -> u32
+pub fn gyroid_affine_jet(description: &[i64], world: &[f64], out: &mut [f64]) -> u32
     ensures answer { result ≡ status (exports.affine_jet description.now world.now (length out.old)) }
     ensures left { out.new ≡ written out.old
         (exports.affine_jet description.now world.now (length out.old)) }
@@ -163,13 +154,7 @@ pub extern "C" fn gyroid_affine_jet(description: &[i64], world: &[f64], out: &mu
 }
 
 // The gradient, then the Hessian row by row. A piece's number above 2 is refused 1.
-#[unsafe(no_mangle)]
-pub extern "C" fn gyroid_derivatives(
-    description: &[i64],
-    world: &[f64],
-    piece: u32,
-    out: &mut [f64],
-) -> u32
+pub fn gyroid_derivatives(description: &[i64], world: &[f64], piece: u32, out: &mut [f64]) -> u32
     ensures answer { result ≡ status (exports.derivatives description.now world.now piece (length out.old)) }
     ensures left { out.new ≡ written out.old
         (exports.derivatives description.now world.now piece (length out.old)) }
@@ -185,8 +170,7 @@ pub extern "C" fn gyroid_derivatives(
     )
 }
 
-#[unsafe(no_mangle)]
-pub extern "C" fn gyroid_residual(description: &[i64], world: &[f64], out: &mut [f64]) -> u32
+pub fn gyroid_residual(description: &[i64], world: &[f64], out: &mut [f64]) -> u32
     ensures answer { result ≡ status (exports.residual description.now world.now (length out.old)) }
     ensures left { out.new ≡ written out.old
         (exports.residual description.now world.now (length out.old)) }
@@ -198,8 +182,7 @@ pub extern "C" fn gyroid_residual(description: &[i64], world: &[f64], out: &mut 
     put_enclosure(residual(describe(description), world_at(world, 0)), out)
 }
 
-#[unsafe(no_mangle)]
-pub extern "C" fn gyroid_affine_residual(description: &[i64], world: &[f64], out: &mut [f64]) -> u32
+pub fn gyroid_affine_residual(description: &[i64], world: &[f64], out: &mut [f64]) -> u32
     ensures answer { result ≡ status (exports.affine_residual description.now world.now (length out.old)) }
     ensures left { out.new ≡ written out.old
         (exports.affine_residual description.now world.now (length out.old)) }
@@ -215,8 +198,7 @@ pub extern "C" fn gyroid_affine_residual(description: &[i64], world: &[f64], out
 }
 
 // 1 inside, 2 outside, 3 unsettled.
-#[unsafe(no_mangle)]
-pub extern "C" fn gyroid_box_state(description: &[i64], world: &[f64], out: &mut [i64]) -> u32
+pub fn gyroid_box_state(description: &[i64], world: &[f64], out: &mut [i64]) -> u32
     ensures answer { result ≡ status (exports.box_state description.now world.now (length out.old)) }
     ensures left { out.new ≡ written out.old
         (exports.box_state description.now world.now (length out.old)) }
@@ -228,12 +210,7 @@ pub extern "C" fn gyroid_box_state(description: &[i64], world: &[f64], out: &mut
     put_state(box_state(describe(description), world_at(world, 0)), out)
 }
 
-#[unsafe(no_mangle)]
-pub extern "C" fn gyroid_facet_residual(
-    description: &[i64],
-    corners: &[f64],
-    out: &mut [f64],
-) -> u32
+pub fn gyroid_facet_residual(description: &[i64], corners: &[f64], out: &mut [f64]) -> u32
     ensures answer { result ≡ status (exports.facet_residual description.now corners.now (length out.old)) }
     ensures left { out.new ≡ written out.old
         (exports.facet_residual description.now corners.now (length out.old)) }
@@ -248,8 +225,7 @@ pub extern "C" fn gyroid_facet_residual(
     )
 }
 
-#[unsafe(no_mangle)]
-pub extern "C" fn gyroid_fast(description: &[i64], point: &[f64], out: &mut [f64]) -> u32
+pub fn gyroid_fast(description: &[i64], point: &[f64], out: &mut [f64]) -> u32
     ensures answer { result ≡ status (exports.fast description.now point.now (length out.old)) }
     ensures left { out.new ≡ written out.old
         (exports.fast description.now point.now (length out.old)) }
@@ -261,8 +237,7 @@ pub extern "C" fn gyroid_fast(description: &[i64], point: &[f64], out: &mut [f64
     put_double(fast(describe(description), point_at(point)), out)
 }
 
-#[unsafe(no_mangle)]
-pub extern "C" fn gyroid_fast_distance(description: &[i64], point: &[f64], out: &mut [f64]) -> u32
+pub fn gyroid_fast_distance(description: &[i64], point: &[f64], out: &mut [f64]) -> u32
     ensures answer { result ≡ status (exports.fast_distance description.now point.now (length out.old)) }
     ensures left { out.new ≡ written out.old
         (exports.fast_distance description.now point.now (length out.old)) }
@@ -276,8 +251,7 @@ pub extern "C" fn gyroid_fast_distance(description: &[i64], point: &[f64], out: 
 
 // Writes the cells of the box to `table`. Where spans tie, `rule` 0 takes the grade axis and 1 the lowest; another is refused 1. Returns 0,
 // document 01's number or 101; there is no `out`.
-#[unsafe(no_mangle)]
-pub extern "C" fn gyroid_walk(
+pub fn gyroid_walk(
     description: &[i64],
     bounds: &[i64],
     depth: i64,
@@ -304,8 +278,7 @@ pub extern "C" fn gyroid_walk(
 }
 
 // Writes the areas of the layers `low` to `high` − 1 of a table to `report`. Returns 0 or document 02's number; there is no `out`.
-#[unsafe(no_mangle)]
-pub extern "C" fn gyroid_layers(table: &[u8], low: i64, high: i64, report: &mut [u8]) -> u32
+pub fn gyroid_layers(table: &[u8], low: i64, high: i64, report: &mut [u8]) -> u32
     ensures answer { result ≡ layers_number table.now low high (length report.old) }
     ensures left { report.new ≡ layers_report table.now low high report.old }
     ensures reported { result ≡ 0 → Reported table.now low high report.new }

@@ -15,7 +15,7 @@ use Rattle.grade.specs.declared.Grade.{Grade}
 use Rattle.grade.specs.declared.GradeDef.{GradeDef}
 use Rattle.grade.specs.declared.LevelKind.{LevelKind}
 use Rattle.limits.specs.Ticks.{at, ticks, above}
-use Rattle.grade.specs.Grade.{in_limits, eq_z, is_linear, minus, dot, direction, length_sq}
+use Rattle.grade.specs.Grade.{in_limits, eq_z, is_linear, minus, dot, length_sq}
 use Rattle.grade.specs.Exact.{linear_of, numbers, constant_def, compiled}
 use Rattle.limits.specs.Refusals.{refused, ◌or_else◌}
 use Rattle.grade.specs.Refusals.{same, is_distance, coincident, range_refusal}

@@ -3,7 +3,7 @@ use mathlib.Core.Path.{refl}
 use mathlib.Core.Bool.{not}
 use lib.Dec.{T, lit<}
 use lib.IntN.{pos, negsuc}
-use Rattle.exact.specs.Fraction.{whole, ◌/F◌, ◌≤F◌, ◌≈F◌}
+use Rattle.exact.specs.Fraction.{whole, ◌/F◌, ◌≈F◌}
 use Rattle.exact.proofs.Fraction.{≤F_trans, ≈F_trans, ≈F_le, ≈F_ge, ≤F_antisym, over_whole}
 use Rattle.grade.specs.Grade.{in_limits, minus, dot, Point, level}
 use Rattle.grade.specs.Exact.{linear_of, constant_def, compiled, least_corner, greatest_corner, least_along, greatest_along, level_over, linear_range, range}

@@ -2,7 +2,6 @@
 use mathlib.Core.Path.{sym, subst, subst⁻¹}
 use mathlib.Core.Bool.{Bool, true, false, not, ◌&&◌}
 use mathlib.Core.List.{List}
-use Prim.Native.Nat.{◌<◌}
 use lib.Dec.{T}
 use lib.IntN.{ℤ, pos, nat_abs}
 use lib.Signed.{le_z, le_z_yes, ◌<ℤ◌}

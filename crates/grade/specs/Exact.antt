@@ -10,7 +10,7 @@ use Rattle.grade.specs.declared.Piece.TheVariants.{Start, Ramp, End}
 use Rattle.grade.specs.declared.PieceAnswer.{PieceAnswer}
 use Rattle.grade.specs.declared.PieceAnswer.TheVariants.{Found, None}
 use Rattle.limits.specs.Ticks.{at}
-use Rattle.grade.specs.Grade.{eq_z, is_linear, minus, dot, direction}
+use Rattle.grade.specs.Grade.{eq_z, is_linear, minus, dot}
 
 -- ---- compiled: the linear level's numbers beside its kind
 unfoldable pub linear_of : List ℤ → List ℤ → ℤ → ℤ → Linear

@@ -168,7 +168,7 @@ module _
   turn_same : (i : ℕ) → i < 3 → product (box_at (centre w) i) (turns d) ≡ product (box_at (centre v) i) (turns d)
   turn_same i b =
       let e = turns_in d passed.above in
-      mul_same (centre_same i b) (same_ends (turns d) e.small_lo e.small_hi)
+      mul_same {k = 11} (centre_same i b) (same_ends (turns d) e.small_lo e.small_hi)
 
   finite_same : all_finite w ≡ all_finite v
   unfolding all_finite
@@ -226,7 +226,7 @@ module _
         where
           reached : (i : ℕ) → i < 3 → reach (box_at (minus ar j.gradient slope) i) (box_at (radii ar w) i)
               ≡ reach (box_at (minus ar j.gradient slope) i) (box_at (radii ar v) i)
-          reached i b = mul_same (point_same (same (magnitude (box_at (minus ar j.gradient slope) i)) (steep_small t i b))) (radii_same i b)
+          reached i b = mul_same {j = 102} (point_same (same (magnitude (box_at (minus ar j.gradient slope) i)) (steep_small t i b))) (radii_same i b)
 
       expanded_same : (q : Interval) → expanded ar q j level slope (radii ar w) ≡ expanded ar q j level slope (radii ar v)
       unfolding expanded bound

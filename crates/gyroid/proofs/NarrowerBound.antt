@@ -134,10 +134,10 @@ module _ (ar : Arithmetic) where
         middle = itself (sized (centre_in lo hi low-in high-in i b))
 
         above : Nested 12 (difference ar (point e.hi) (point (mid e))) (difference Wide (point e.hi) (point (mid e)))
-        above = difference_nested ar tt (itself (sized (point_encloses e.hi (ends_sized i b).hi))) middle
+        above = difference_nested ar {j = 10} tt (itself (sized (point_encloses e.hi (ends_sized i b).hi))) middle
 
         below : Nested 12 (difference ar (point (mid e)) (point e.lo)) (difference Wide (point (mid e)) (point e.lo))
-        below = difference_nested ar tt middle (itself (sized (point_encloses e.lo (ends_sized i b).lo)))
+        below = difference_nested ar {k = 10} tt middle (itself (sized (point_encloses e.lo (ends_sized i b).lo)))
 
         most : value (radius ar e) ≤F value (radius Wide e)
         most =

@@ -41,7 +41,8 @@ module _
 
     reach_in : (i : ℕ) → i < 3 → In 123 (steepest i *F r i) (reach (difference ar (box_at G i) (box_at S i)) (box_at W i))
     unfolding reach
-    reach_in i b = mul_encloses tt (point_encloses (magnitude (difference ar (box_at G i) (box_at S i))) (magnitude_small (steep i b))) (radius_in i b)
+    reach_in i b =
+        mul_encloses {j = 102} tt (point_encloses (magnitude (difference ar (box_at G i) (box_at S i))) (magnitude_small (steep i b))) (radius_in i b)
 
     bound_in : In 131 (zero_f +F steepest 0 *F r 0 +F steepest 1 *F r 1 +F steepest 2 *F r 2 +F R) (sum ar (spread ar (minus ar G S) W) Q)
     unfolding spread minus
@@ -59,5 +60,5 @@ module _
         gathered = ring_f 4 (λ x y z q. lit (pos 0) ⊕ x ⊕ y ⊕ z ⊕ q) (λ x y z q. x ⊕ y ⊕ z ⊕ q) tt ((steepest 0 *F r 0) ∷ (steepest 1 *F r 1) ∷ (steepest 2 *F r 2) ∷ R ∷ [])
 
     pub second_order_lem : In 133 (expanded_at v d e l s o) (sum ar (difference ar X L) (symmetric (sum ar (spread ar (minus ar G S) W) Q).hi))
-    second_order_lem = add_encloses ar tt (sub_encloses ar tt value_in level_in)
+    second_order_lem = add_encloses ar {k = 131} tt (sub_encloses ar tt value_in level_in)
         (symmetric_encloses (sum ar (spread ar (minus ar G S) W) Q).hi bound_in.small_hi bounded)

@@ -6,7 +6,6 @@ use Prim.Native.Nat.{ℕ}
 use lib.IntN.{pos, negsuc}
 use lib.ListN.{replicate}
 use Rattle.tree.specs.Box.{volume, area_at}
-use Rattle.table.specs.declared.Head.{Head}
 use Rattle.table.specs.Table.{Record, word4, word8, head_bytes, state_word, cell_bytes}
 use Rattle.table.specs.Read.{chain, chain_end, record_in}
 use Rattle.table.specs.Words.{bytes_of}

@@ -5,7 +5,6 @@ use mathlib.Core.List.{List, ◌++◌}
 use Prim.Native.Nat.{ℕ}
 use lib.IntN.{pos, negsuc}
 use Rattle.tree.specs.Box.{volume}
-use Rattle.table.specs.declared.Head.{Head}
 use Rattle.table.specs.Table.{Record, word4, word8, head_bytes, state_word, cell_bytes}
 use Rattle.table.specs.Read.{chain, chain_end, record_in}
 use Rattle.sound.specs.Slots.{slots_in, times, each_once}

@@ -64,5 +64,5 @@ placed_cells t total slot (m ∷ n ∷ ms) h =
     let next : next_slot total slot ≡ suc slot = rw (ne_eqb slot total (λ q. omega arith)) (add-one slot) in
     let others : List ℕ = cells_bytes total (suc slot) (n ∷ ms) in
     sets_then t (32 * slot) (cell_bytes (suc slot) m) others refl
-    (placed_cells _ total (suc slot) (n ∷ ms) (omega arith)) (omega (arith, length_cell (suc slot) m))
+    (placed_cells (sets t (32 * slot) (cell_bytes (suc slot) m)) total (suc slot) (n ∷ ms) (omega arith)) (omega (arith, length_cell (suc slot) m))
     ∙ ap (λ (k : ℕ). sets t (32 * slot) (cell_bytes k m ++ others)) (sym next)

@@ -1,7 +1,7 @@
 -- The halves of the code's box stand for the halves of the box. Assumes nothing.
 use mathlib.Core.Path.{◌≡◌, sym, ap, ◌∙◌}
 use Prim.Native.Nat.{ℕ, ◌+◌, ◌-◌, ◌/◌}
-use lib.IntN.{ℤ, pos, ◌+ℤ◌}
+use lib.IntN.{pos, ◌+ℤ◌}
 use Rattle.tree.specs.declared.Axis.{Axis}
 use Rattle.tree.specs.declared.Axis.TheVariants.{X, Y, Z}
 use Rattle.tree.specs.declared.ShiftedBox.{ShiftedBox}

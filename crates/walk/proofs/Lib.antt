@@ -1,5 +1,6 @@
 -- The laws of the walk. Assumes nothing.
 mod StepLaws
+mod HalvedLaws
 mod RecordLaws
 mod SoundLaws
 -- the axis by either tie rule: for this walk and for others

@@ -1,0 +1,23 @@
+-- By the refusals; a leaf behind a refusal of 0 is the description's. Assumes nothing.
+use mathlib.Core.Path.{sym, ap, ◌∙◌}
+use Rattle.grade.specs.Said.{found, refusing}
+use Rattle.limits.proofs.RefusalLaws.{refused_is, answer_is}
+use Rattle.gyroid.proofs.LeafLaws.{number_is, leaf_is}
+use Rattle.calls.specs.Calls.{ends, curvature_call}
+use Rattle.calls.specs.Facet.{curvature}
+use Rattle.calls.proofs.calls.curvature.Goals as goal
+
+pub returns-then-made-ne0 : goal.returns-then-made-ne0
+unfolding curvature_call
+returns-then-made-ne0 c =
+    let d = c.args.description in
+    let n = number_is d c.certified-made.ensures in
+    refused_is (λ k. refusing k) _ n c.if-made-ne0.true
+
+pub returns : goal.returns
+unfolding curvature_call
+returns c =
+    let d = c.args.description in
+    let n = number_is d c.certified-made.ensures in
+    let l = leaf_is d c.certified-made.ensures (sym n ∙ c.if-made-ne0.false) in
+    answer_is _ n c.if-made-ne0.false (c.enclosure.ensures ∙ ap (λ v. found (ends v)) (c.curvature.ensures ∙ ap curvature l))

@@ -1,0 +1,29 @@
+-- By what the lengths refuse, then by the call and what is left. Assumes nothing.
+use mathlib.Core.Path.{◌∙◌}
+use borrow.Author.Rules.{rules}
+use Rattle.calls.specs.Calls.{affine_residual_call}
+use Rattle.capi.specs.Exports.{affine_residual}
+use Rattle.capi.proofs.AnswerLaws.{stopped, passed}
+use Rattle.capi.proofs.LengthLaws.{sized, holds}
+use Rattle.capi.proofs.gyroid_affine_residual.Goals as goal
+
+pub returns-then-number-ne0 : goal.returns-then-number-ne0
+unfolding affine_residual
+returns-then-number-ne0 c = stopped _ _ _ _ c.lengths-number.ensures c.if-number-ne0.true
+
+pub describe-requires : goal.describe-requires
+describe-requires c = (sized _ _ _ _ _ c.lengths-number.ensures c.if-number-ne0.false).entries
+
+pub world_at-requires : goal.world_at-requires
+world_at-requires c = holds (sized _ _ _ _ _ c.lengths-number.ensures c.if-number-ne0.false).argument
+
+pub put_enclosure-requires : goal.put_enclosure-requires
+put_enclosure-requires c =
+    (sized _ _ _ _ _ c.lengths-number.ensures c.if-number-ne0.false).room
+
+pub returns : goal.returns
+unfolding affine_residual
+returns c =
+    passed _ _ _ _ _ _ _ c.lengths-number.ensures c.if-number-ne0.false
+    (c.affine_residual.ensures ∙ (λ k. affine_residual_call (c.describe.ensures k) (c.world_at.ensures k)))
+    c.put_enclosure.ensures.status c.put_enclosure.ensures.left

@@ -1,0 +1,12 @@
+-- By the two tests. Assumes nothing.
+use borrow.Author.Tests.{ne_eqb}
+use Rattle.capi.proofs.reading.piece_of.Goals as goal
+
+pub returns-then-number-eq0 : goal.returns-then-number-eq0
+returns-then-number-eq0 c = rw c.if-number-eq0.true
+
+pub returns-then-number-eq1 : goal.returns-then-number-eq1
+returns-then-number-eq1 c = rw (ne_eqb _ _ c.if-number-eq0.false, c.if-number-eq1.true)
+
+pub returns : goal.returns
+returns c = rw (ne_eqb _ _ c.if-number-eq0.false, ne_eqb _ _ c.if-number-eq1.false)
