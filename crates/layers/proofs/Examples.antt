@@ -21,8 +21,8 @@ table = head_bytes (record { first = 1; cells = 2; evaluated = 3; solid = 4; «o
 
 -- 50 bytes are lent, and 48 are the report's
 overlap : layers_report table (negsuc 0) (pos 1) (replicate 50 9) ≡ replicate 24 0 ++ (4 ∷ []) ++ replicate 23 0 ++ (9 ∷ 9 ∷ [])
-unfolding layers_report layers_number report_of areas area_in area_at bytes_of sound_of keeps_limits sound_cell sound_cells volumes slots_in times each_once chain chain_end
-    record_in head_bytes cell_bytes state_word word8 word4 volume
+unfolding layers_report layers_number report_of areas area_in area_at bytes_of sound_of keeps_limits sound_cell sound_cells volumes slots_in times
+    each_once chain chain_end record_in head_bytes cell_bytes state_word word8 word4 volume
 overlap = refl
 
 -- 16 though 47 bytes are too few, and 17

@@ -10,7 +10,7 @@ use native.Mathlib.Nat.{eq-or-lt_of_le, eq-zero-or-pos}
 use lib.Dec.{eqb}
 use lib.IntN.{ℤ, pos, ◌-ℤ◌}
 use lib.Ieee.{Float, nan}
-use lib.ListN.{length, get_or, set}
+use lib.ListN.{get_or, set}
 use lib.Seq.{sets, length-sets}
 use borrow.Author.Tests.{eqb-true}
 use Rattle.exact.specs.Within.{Within}

@@ -27,18 +27,22 @@ table first a m b n =
     head_bytes (record { first = first; cells = 2; evaluated = 7; solid = 7; «open» = 7 }) ++ cell_bytes a m ++ cell_bytes b n
 
 from_second : sound_of (table 2 0 (cube 1 0) 1 (cube 3 24)) ≡ true
-unfolding sound_of keeps_limits sound_cell sound_cells volumes slots_in times each_once chain chain_end record_in head_bytes cell_bytes state_word word8 word4 volume
+unfolding sound_of keeps_limits sound_cell sound_cells volumes slots_in times each_once chain chain_end record_in head_bytes cell_bytes state_word
+    word8 word4 volume
 from_second = refl
 
 returns_to_a_slot : sound_of (table 1 1 (cube 1 0) 0 (cube 3 24)) ≡ false
-unfolding sound_of keeps_limits sound_cell sound_cells volumes slots_in times each_once chain chain_end record_in head_bytes cell_bytes state_word word8 word4 volume
+unfolding sound_of keeps_limits sound_cell sound_cells volumes slots_in times each_once chain chain_end record_in head_bytes cell_bytes state_word
+    word8 word4 volume
 returns_to_a_slot = refl
 
 too_deep : sound_of (table 2 0 (cube 1 0) 1 (cube 3 25)) ≡ false
-unfolding sound_of keeps_limits sound_cell sound_cells volumes slots_in times each_once chain chain_end record_in head_bytes cell_bytes state_word word8 word4 volume
+unfolding sound_of keeps_limits sound_cell sound_cells volumes slots_in times each_once chain chain_end record_in head_bytes cell_bytes state_word
+    word8 word4 volume
 too_deep = refl
 
 -- 2^64 tick cubes
 twice_the_range : sound_of (table 2 0 whole 1 whole) ≡ false
-unfolding sound_of keeps_limits sound_cell sound_cells volumes slots_in times each_once chain chain_end record_in head_bytes cell_bytes state_word word8 word4 volume
+unfolding sound_of keeps_limits sound_cell sound_cells volumes slots_in times each_once chain chain_end record_in head_bytes cell_bytes state_word
+    word8 word4 volume
 twice_the_range = refl

@@ -66,7 +66,8 @@ along_halves c a b g =
     lies_between_halves c (low a b) (middle a b) (high a b) (middle_least (low a b) (high a b) (g.spans a))
     (<ℤ_le (middle_below (low a b) (high a b) (g.spans a)))
 
-pub holds_halves : (x y z : ℤ) (a : Axis) (b : Box) → Good b → one (holds_cube x y z b) ≡ one (holds_cube x y z (lower a b)) + one (holds_cube x y z (upper a b))
+pub holds_halves : (x y z : ℤ) (a : Axis) (b : Box) → Good b
+    → one (holds_cube x y z b) ≡ one (holds_cube x y z (lower a b)) + one (holds_cube x y z (upper a b))
 unfolding holds_cube lower upper
 holds_halves x y z X b g =
     split_left (along x X b && along y Y b) (below x X b && along y Y b) (above x X b && along y Y b) (along z Z b)

@@ -10,7 +10,8 @@ use Rattle.exact.proofs.IntegerOrder.{pos_part, neg_part, sum_parts, difference_
 pub span_parts : (l h : ℤ) → l ≤ℤ h → pos_part h + neg_part l ≡ pos_part l + neg_part h + nat_abs (h -ℤ l)
 span_parts l h p = by_sign (h -ℤ l) (difference_parts h l)
   where
-    by_sign : (z : ℤ) → pos_part z + (neg_part h + pos_part l) ≡ pos_part h + neg_part l + neg_part z → pos_part h + neg_part l ≡ pos_part l + neg_part h + nat_abs z
+    by_sign : (z : ℤ) → pos_part z + (neg_part h + pos_part l) ≡ pos_part h + neg_part l + neg_part z
+        → pos_part h + neg_part l ≡ pos_part l + neg_part h + nat_abs z
     by_sign (pos n) e = omega zarith
     by_sign (negsuc n) e = omega zarith
 
