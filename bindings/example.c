@@ -1,7 +1,7 @@
 /* Asks the mark of one box and the residual behind it, walks a box that is not settled, and asks for the areas of a
  * layer of it, in the float state that the proofs speak of. From the project's root:
  *
- *   rt staticlib capi
+ *   .ci/build capi
  *   cc -I bindings bindings/example.c target/staticlib/libcapi.a -o example && ./example
  */
 #include "gyroid.h"

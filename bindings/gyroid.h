@@ -1,4 +1,4 @@
-/* The eighteen calls of libcapi.a, a static library for x86-64 that `rt staticlib capi` makes in target/staticlib.
+/* The eighteen calls of libcapi.a, a static library for x86-64 that `.ci/build capi` makes in target/staticlib.
  *
  * Before you call
  *
@@ -27,7 +27,7 @@
  *   alignment  The library needs none: its code reads and writes entries at any address, and is tested at odd ones.
  *              The proofs speak of entries where C has them, int64_t and double at multiples of 8, and C itself asks
  *              for that. A table is bytes, and so is a report.
- *   stack      A walk of depth 24 takes 46,272 bytes of stack, measured; no heap.
+ *   stack      A walk of depth 24 takes 46,272 bytes of stack, measured with rattle-kit-5b; no heap.
  *
  * Every call answers a status:
  *

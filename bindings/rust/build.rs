@@ -9,17 +9,18 @@ use std::{env, fs};
 
 const ARCHIVE: &str = "libcapi.a";
 
-/// Runs the toolchain in the project's root; the error says what to do.
+/// Has the project's own script prove the library and make the archive; the error says what to do.
 fn make(root: &Path) -> Result<(), String> {
-    let status = Command::new("rt").args(["staticlib", "capi"]).current_dir(root).status();
-    match status {
-        Ok(status) if status.success() => Ok(()),
-        Ok(status) => Err(format!("`rt staticlib capi` failed: {status}")),
-        Err(error) => Err(format!(
-            "{ARCHIVE} is missing, and `rt staticlib capi`, which makes it, cannot run: {error}. \
-             Put rt on the path, or name the archive's directory by GYROID_ARCHIVE_DIR"
-        )),
-    }
+    let status = Command::new(root.join(".ci/build")).arg("capi").current_dir(root).status();
+    let why = match status {
+        Ok(status) if status.success() => return Ok(()),
+        Ok(status) => format!("failed: {status}"),
+        Err(error) => format!("cannot run: {error}"),
+    };
+    Err(format!(
+        "{ARCHIVE} is missing, and `.ci/build capi`, which makes it, {why}. \
+         Put rt on the path, or name the archive's directory by GYROID_ARCHIVE_DIR"
+    ))
 }
 
 /// When a file of a directory was last changed.
@@ -40,7 +41,7 @@ fn warn_of_newer_sources(root: &Path, archive: &Path) {
     let changed = names.filter_map(|name| newest(&name.path().join("src"))).max();
     let made = archive.metadata().and_then(|archive| archive.modified()).ok();
     if changed > made {
-        println!("cargo::warning={ARCHIVE} is older than the sources: `rt staticlib capi` makes it anew");
+        println!("cargo::warning={ARCHIVE} is older than the sources: `.ci/build capi` makes it anew");
     }
 }
 

@@ -29,7 +29,7 @@
 //! the caller's, exception flags and all; only [`layers`], which computes with whole numbers alone, has no need to. The
 //! functions of [`raw`] do not.
 //!
-//! The static library is made by `rt staticlib capi` in the project's root; the build runs that command where the
+//! The static library is made by `.ci/build capi` in the project's root; the build runs that command where the
 //! library is missing. `GYROID_ARCHIVE_DIR` names another directory; a relative one is read from where cargo was
 //! started. bindings/gyroid.h has the same calls for C.
 #![no_std]

@@ -1,5 +1,5 @@
 -- What an exported call reads from the slices lent to it, what it returns, and what it leaves in them. Definitions only; assumes nothing.
-use Rattle.std.specs.Prelude.{cond, not, List, [], ◌∷◌, ℕ, suc, ◌+◌, eqb, ltb, ℤ, Float, length, get_or, set}
+use Rattle.std.specs.Prelude.{cond, not, List, [], ◌∷◌, ℕ, suc, ◌+◌, eqb, ltb, ℤ, Float, get_or, set}
 use Rattle.std.specs.Float.{nan}
 use Rattle.interval.specs.declared.Interval.{Interval}
 use Rattle.grade.specs.declared.Grade.{Grade}

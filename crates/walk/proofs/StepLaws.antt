@@ -9,7 +9,7 @@ use Rattle.gyroid.specs.declared.Gyroid.{Gyroid}
 use Rattle.gyroid.specs.declared.State.{State}
 use Rattle.tree.specs.declared.Axis.{Axis}
 use Rattle.tree.specs.Box.{Box, Good, span, one_cube, lower, upper}
-use Rattle.tree.specs.Tree.{Cell, stops, cells, leaves, box_count, Fair}
+use Rattle.tree.specs.Tree.{stops, cells, leaves, box_count, Fair}
 use Rattle.tree.proofs.StepLaws.{IsCell, cell_deep, cell_stops, wide, halved}
 use Rattle.walk.specs.declared.Step.{Step}
 use Rattle.walk.specs.Walk.{is_settled}

@@ -1,6 +1,5 @@
 -- By what the lengths refuse, then by the call and what is left. Assumes nothing.
 use mathlib.Core.Path.{◌∙◌}
-use borrow.Author.Rules.{rules}
 use Rattle.calls.specs.Calls.{affine_residual_call}
 use Rattle.capi.specs.Exports.{affine_residual}
 use Rattle.capi.proofs.AnswerLaws.{stopped, passed}

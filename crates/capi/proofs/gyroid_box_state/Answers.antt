@@ -1,6 +1,5 @@
 -- By what the lengths refuse, then by the call and what is left. Assumes nothing.
 use mathlib.Core.Path.{◌∙◌, ap}
-use borrow.Author.Rules.{rules}
 use lib.IntN.{pos}
 use Rattle.calls.specs.Calls.{box_state_call}
 use Rattle.capi.specs.Exports.{box_state, each}

@@ -1,6 +1,5 @@
 -- By what the lengths refuse, then by the call and what is left. Assumes nothing.
 use mathlib.Core.Path.{◌∙◌, ap, sym}
-use borrow.Author.Rules.{rules}
 use Rattle.limits.proofs.RefusalLaws.{neither}
 use Rattle.calls.specs.Calls.{derivatives_call}
 use Rattle.capi.specs.Exports.{derivatives, derivatives_said}

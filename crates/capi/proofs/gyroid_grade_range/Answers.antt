@@ -1,7 +1,6 @@
 -- By what the lengths refuse, then by the call and what is left. Assumes nothing.
 use mathlib.Core.Path.{◌∙◌}
 use native.Mathlib.Nat.{le_trans}
-use borrow.Author.Rules.{rules}
 use lib.Dec.{lit≤}
 use Rattle.grade.specs.Calls.{range_call}
 use Rattle.capi.specs.Exports.{grade_range}

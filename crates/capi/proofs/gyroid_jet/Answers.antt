@@ -1,6 +1,5 @@
 -- By what the lengths refuse, then by the call and what is left. Assumes nothing.
 use mathlib.Core.Path.{◌∙◌, ap}
-use borrow.Author.Rules.{rules}
 use Rattle.calls.specs.Calls.{jet_call}
 use Rattle.capi.specs.Exports.{jet, jet_said}
 use Rattle.capi.proofs.AnswerLaws.{stopped, passed}

@@ -7,7 +7,6 @@ use lib.IntN.{ℤ}
 use lib.ListN.{length}
 use mir.Syntax.{w64}
 use mir.Val.{to_z, of_z, SFits}
-use borrow.Author.Rules.{rules}
 use Rattle.exact.proofs.Signed.{back}
 use Rattle.layers.specs.Layers.{layers_number, layers_report, Reported}
 use Rattle.capi.proofs.gyroid_layers.Goals as goal
@@ -16,7 +15,7 @@ abbrev Promised : List ℕ → ℤ → ℤ → List ℕ → ℕ → List ℕ →
 Promised t low high r n w = record {
   answer : n ≡ layers_number t low high (length r);
   left : w ≡ layers_report t low high r;
-  reported : n ≡ 0 → Reported t low high w
+  reported : n ≡ 0 → Reported t low high w;
 }
 
 passed : (t : List ℕ) (low high : ℤ) (r : List ℕ) {n : ℕ} {w : List ℕ} → SFits w64 low → SFits w64 high

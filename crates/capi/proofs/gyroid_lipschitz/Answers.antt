@@ -1,6 +1,5 @@
 -- By what the lengths refuse, then by the call and what is left. Assumes nothing.
 use mathlib.Core.Path.{◌∙◌}
-use borrow.Author.Rules.{rules}
 use Rattle.calls.specs.Calls.{lipschitz_call}
 use Rattle.capi.specs.Exports.{lipschitz}
 use Rattle.capi.proofs.AnswerLaws.{stopped, passed}

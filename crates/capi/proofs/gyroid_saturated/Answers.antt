@@ -1,6 +1,5 @@
 -- By what the lengths refuse, then by the call and what is left. Assumes nothing.
 use mathlib.Core.Path.{◌∙◌, ap}
-use borrow.Author.Rules.{rules}
 use Rattle.calls.specs.Calls.{saturated_call}
 use Rattle.capi.specs.Exports.{saturated, each, bit}
 use Rattle.capi.proofs.AnswerLaws.{stopped, passed}

@@ -3,7 +3,6 @@ use mathlib.Core.Path.{◌≡◌, ◌∙◌, transport}
 use mathlib.Core.List.{List}
 use Prim.Native.Nat.{ℕ}
 use native.Mathlib.Nat.{le_trans}
-use borrow.Author.Rules.{rules}
 use lib.Dec.{lit≤}
 use lib.IntN.{ℤ, nat_abs}
 use lib.ListN.{length}
@@ -26,7 +25,7 @@ module _ (ds ns : List ℤ) (D : ℤ) (rule : ℕ) (t : List ℕ) {n : ℕ} (e :
   Promised r u = record {
     answer : r ≡ walk_status ds ns D rule (length t);
     left : u ≡ walk_left ds ns D rule t;
-    demand : WalkSupposed ds ns D rule (length t) → WalkDemand ds ns D rule u
+    demand : WalkSupposed ds ns D rule (length t) → WalkDemand ds ns D rule u;
   }
 
   stopped : (n ≡ 0 → ⊥) → Promised n t

@@ -1,6 +1,5 @@
 -- By what the lengths and the rule refuse, then by what the walk in two passes promises, as `gyroid_walk`. Assumes nothing.
 use native.Mathlib.Nat.{le_trans}
-use borrow.Author.Rules.{rules}
 use lib.Dec.{lit≤}
 use Rattle.capi.proofs.LengthLaws.{walk_sized, holds}
 use Rattle.capi.proofs.WalkLaws.{walk_stopped, walk_passed}

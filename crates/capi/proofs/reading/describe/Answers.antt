@@ -1,5 +1,4 @@
 -- Entry by entry. Assumes nothing.
-use borrow.Author.Rules.{rules}
 use Rattle.capi.specs.Lent.{description}
 use Rattle.capi.proofs.NumberLaws.{entry}
 use Rattle.capi.proofs.reading.describe.Goals as goal

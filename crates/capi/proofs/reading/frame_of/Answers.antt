@@ -1,5 +1,4 @@
 -- Entry by entry. Assumes nothing.
-use borrow.Author.Rules.{rules}
 use Rattle.capi.specs.Lent.{frame}
 use Rattle.capi.proofs.NumberLaws.{entry}
 use Rattle.capi.proofs.reading.frame_of.Goals as goal

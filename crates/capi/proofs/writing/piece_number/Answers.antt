@@ -1,5 +1,4 @@
 -- By the case. Assumes nothing.
-use borrow.Author.Rules.{rules}
 use Rattle.capi.proofs.writing.piece_number.Goals as goal
 
 pub returns-in-Start : goal.returns-in-Start

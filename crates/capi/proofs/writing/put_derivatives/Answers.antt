@@ -2,7 +2,6 @@
 use mathlib.Core.Bool.{not}
 use mathlib.Core.List.{[]}
 use mathlib.Core.Path.{ap, ◌∙◌}
-use borrow.Author.Rules.{rules}
 use Rattle.grade.specs.Intervals.{box_at}
 use Rattle.capi.specs.Exports.{derivatives_values, three_of}
 use Rattle.capi.specs.Lent.{over}

@@ -1,6 +1,5 @@
 -- By the case. Assumes nothing.
 use mathlib.Core.Path.{refl, ap}
-use borrow.Author.Rules.{rules}
 use Rattle.calls.specs.Calls.{double_said}
 use Rattle.capi.proofs.AnswerLaws.{values}
 use Rattle.capi.proofs.writing.put_double.Goals as goal

@@ -1,6 +1,5 @@
 -- By the case. Assumes nothing.
 use mathlib.Core.Path.{refl, ap}
-use borrow.Author.Rules.{rules}
 use Rattle.calls.specs.Calls.{enclosure_said}
 use Rattle.capi.proofs.AnswerLaws.{values, nothing}
 use Rattle.capi.proofs.writing.put_enclosure.Goals as goal

@@ -2,7 +2,6 @@
 use mathlib.Core.Path.{ap}
 use mathlib.Core.Bool.{not}
 use native.Mathlib.Omega.{arith}
-use borrow.Author.Rules.{rules}
 use lib.ListN.{length-set}
 use Rattle.capi.specs.Exports.{jet_values}
 use Rattle.capi.proofs.AnswerLaws.{struct_refused, struct_none, struct_found}

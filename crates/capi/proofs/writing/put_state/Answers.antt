@@ -1,6 +1,5 @@
 -- By the case. Assumes nothing.
 use mathlib.Core.Path.{ap}
-use borrow.Author.Rules.{rules}
 use lib.IntN.{pos}
 use Rattle.calls.specs.Calls.{state_said}
 use Rattle.capi.specs.Exports.{each}

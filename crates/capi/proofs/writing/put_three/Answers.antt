@@ -1,6 +1,5 @@
 -- Six writes, each of them in the slice. Assumes nothing.
 use native.Mathlib.Omega.{arith}
-use borrow.Author.Rules.{rules}
 use lib.ListN.{length-set}
 use Rattle.capi.proofs.NumberLaws.{six}
 use Rattle.capi.proofs.writing.put_three.Goals as goal

@@ -1,6 +1,5 @@
 -- By the case. Assumes nothing.
 use mathlib.Core.Path.{ap}
-use borrow.Author.Rules.{rules}
 use Rattle.calls.specs.Calls.{truth_said}
 use Rattle.capi.specs.Exports.{each, bit}
 use Rattle.capi.proofs.AnswerLaws.{values, nothing}

@@ -1,5 +1,4 @@
 -- By the case. Assumes nothing.
-use borrow.Author.Rules.{rules}
 use Rattle.capi.proofs.writing.state_number.Goals as goal
 
 pub returns-in-Inside : goal.returns-in-Inside

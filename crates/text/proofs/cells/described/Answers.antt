@@ -3,7 +3,6 @@ use mathlib.Core.List.{[], ◌∷◌}
 use lib.IntN.{pos}
 use Rattle.text.specs.Cells.{described}
 use Rattle.text.proofs.CellsLaws.{entry}
-use borrow.Author.Rules.{rules}
 use Rattle.text.proofs.cells.described.Goals as goal
 
 pub returns : goal.returns

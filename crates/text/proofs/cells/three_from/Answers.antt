@@ -2,7 +2,6 @@
 use mathlib.Core.List.{[], ◌∷◌}
 use Prim.Native.Nat.{◌+◌}
 use Rattle.text.proofs.CellsLaws.{entry}
-use borrow.Author.Rules.{rules}
 use Rattle.text.proofs.cells.three_from.Goals as goal
 
 pub returns : goal.returns

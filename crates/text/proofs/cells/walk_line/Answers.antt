@@ -5,7 +5,6 @@ use Rattle.walk.specs.declared.TieRule.TheVariants.{LowestAxis}
 use Rattle.walk.specs.InUse.{walk_number, walk_table}
 use Rattle.text.specs.Cells.{number_of, table_of}
 use Rattle.text.proofs.CellsLaws.{entry}
-use borrow.Author.Rules.{rules}
 use Rattle.text.proofs.cells.walk_line.Goals as goal
 
 pub returns : goal.returns

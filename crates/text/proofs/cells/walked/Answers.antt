@@ -1,6 +1,5 @@
 -- The walk's refusal, or the listing of its table. Assumes nothing.
 use Rattle.text.proofs.CellsLaws.{fresh, text_refused, text_listed, listing_small, printed}
-use borrow.Author.Rules.{rules}
 use Rattle.text.proofs.cells.walked.Goals as goal
 
 pub returns-then-number-ne0 : goal.returns-then-number-ne0

@@ -6,8 +6,8 @@ use Prim.Native.Nat.{ℕ, ◌<◌}
 use native.Mathlib.Omega.{arith}
 use borrow.Author.Rules.{rules}
 use lib.ListN.{length}
-use Rattle.text.specs.Line.{digits_at, is_digit}
-use Rattle.text.proofs.LineLaws.{digit_range, byte_inside, digits_step, digits_stop, digits_done, Room, room_below, room_step}
+use Rattle.text.specs.Line.{is_digit}
+use Rattle.text.proofs.LineLaws.{digit_range, byte_inside, digits_step, digits_stop, digits_done, room_below, room_step}
 use Rattle.text.proofs.parse.digits_at.Goals as goal
 
 pub loop-left-init : goal.loop-left-init

@@ -1,15 +1,15 @@
 -- `text::parse::parse` meets its contract. The loop's invariant: what is asked is the line with the numbers read so far, and as many others as
 -- are left. Assumes nothing.
-use mathlib.Core.Path.{◌≡◌, refl, sym, ap, ◌∙◌}
+use mathlib.Core.Path.{refl, sym, ap, ◌∙◌}
 use mathlib.Core.List.{List}
-use Prim.Native.Nat.{◌+◌, ◌-◌, ◌≤◌, ◌<◌}
+use Prim.Native.Nat.{◌+◌, ◌-◌, ◌<◌}
 use native.Mathlib.Omega.{arith}
 use borrow.Author.Rules.{rules}
 use Rattle.exact.proofs.Signed.{back}
 use lib.IntN.{ℤ}
 use mathlib.Core.Bool.{true}
 use lib.Seq.{take_all}
-use lib.ListN.{length, take, length-set}
+use lib.ListN.{length, length-set}
 use Rattle.text.specs.Line.{line_from, line_of}
 use Rattle.text.proofs.LineLaws.{byte_inside, separator_above, stored, line_no_number, line_no_separator, line_step, line_bytes_after, line_whole}
 use Rattle.text.proofs.parse.parse.Goals as goal

@@ -4,7 +4,6 @@ use Prim.Native.Nat.{◌*◌, ◌≤◌}
 use native.Mathlib.Omega.{arith}
 use lib.ListN.{length}
 use Rattle.table.proofs.ReadLaws.{next_past}
-use borrow.Author.Rules.{rules}
 use Rattle.text.proofs.print.next_slot.Goals as goal
 
 pub returns : goal.returns

@@ -1,5 +1,4 @@
 -- `text::print::put_byte` meets its contract. Assumes nothing.
-use borrow.Author.Rules.{rules}
 use Rattle.text.proofs.AppendLaws.{byte_appended}
 use Rattle.text.proofs.print.put_byte.Goals as goal
 

@@ -6,7 +6,6 @@ use Rattle.text.specs.Decimal.{decimal}
 use native.Mathlib.Omega.{arith}
 use Rattle.text.proofs.AppendLaws.{as_appended, then_appended}
 use Rattle.text.proofs.ListingLaws.{cell_is, length_cell}
-use borrow.Author.Rules.{rules}
 use Rattle.text.proofs.print.put_cell.Goals as goal
 
 pub put_decimal-lows-requires : goal.put_decimal-lows-requires

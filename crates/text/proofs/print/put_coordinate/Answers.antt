@@ -13,7 +13,6 @@ use Rattle.table.specs.Read.{coordinate_in}
 use Rattle.table.proofs.ReadLaws.{coordinate_within}
 use Rattle.text.specs.Decimal.{signed_decimal}
 use Rattle.text.proofs.AppendLaws.{as_appended, then_appended}
-use borrow.Author.Rules.{rules}
 use Rattle.text.proofs.print.put_coordinate.Goals as goal
 
 read : (t : List ℕ) (slot i : ℕ) {x : ℤ} → x ≡ coordinate_in t slot i → Is 2147483648 (to_z w64 (of_z w64 x)) (coordinate_in t slot i)

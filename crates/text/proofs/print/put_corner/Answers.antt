@@ -9,7 +9,6 @@ use Rattle.text.specs.Appended.{corner_in}
 use Rattle.text.specs.Decimal.{signed_decimal}
 use Rattle.text.proofs.AppendLaws.{as_appended, then_appended}
 use Rattle.text.proofs.ListingLaws.{corner_is, length_corner}
-use borrow.Author.Rules.{rules}
 use Rattle.text.proofs.print.put_corner.Goals as goal
 
 -- ---- how long the three are, with a space before each

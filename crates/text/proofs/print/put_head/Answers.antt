@@ -2,7 +2,6 @@
 use native.Mathlib.Omega.{arith}
 use Rattle.text.proofs.AppendLaws.{as_appended, then_appended}
 use Rattle.text.proofs.ListingLaws.{head_is, length_head}
-use borrow.Author.Rules.{rules}
 use Rattle.text.proofs.print.put_head.Goals as goal
 
 pub put_decimal-second-requires : goal.put_decimal-second-requires

@@ -7,7 +7,6 @@ use native.Mathlib.Omega.{arith}
 use Rattle.text.specs.Listing.{listing}
 use Rattle.text.proofs.AppendLaws.{then_appended, at_front}
 use Rattle.text.proofs.ListingLaws.{listing_is, length_listing}
-use borrow.Author.Rules.{rules}
 use Rattle.text.proofs.print.put_listing.Goals as goal
 
 pub put_head-second-requires : goal.put_head-second-requires

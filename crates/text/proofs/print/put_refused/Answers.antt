@@ -6,7 +6,6 @@ use Rattle.text.specs.Listing.{refused_text}
 use Rattle.text.proofs.AppendLaws.{then_appended, at_front}
 use Rattle.text.proofs.DecimalLaws.{few_digits}
 use Rattle.text.proofs.ListingLaws.{length_refused}
-use borrow.Author.Rules.{rules}
 use Rattle.text.proofs.print.put_refused.Goals as goal
 
 pub put_spaced-end-requires : goal.put_spaced-end-requires

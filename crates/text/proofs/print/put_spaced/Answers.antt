@@ -1,6 +1,5 @@
 -- `text::print::put_spaced` meets its contract. Assumes nothing.
 use Rattle.text.proofs.AppendLaws.{then_appended}
-use borrow.Author.Rules.{rules}
 use Rattle.text.proofs.print.put_spaced.Goals as goal
 
 pub returns : goal.returns

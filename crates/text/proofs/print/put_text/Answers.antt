@@ -1,10 +1,9 @@
 -- `text::print::put_text` meets its contract. The loop's invariant: the first i bytes of the text are put. Assumes nothing.
 use mathlib.Core.Path.{◌≡◌, refl, sym, ap, ◌∙◌}
 use mathlib.Core.List.{List, [], ◌∷◌}
-use Prim.Native.Nat.{ℕ, ◌+◌, ◌-◌, ◌≤◌, ◌<◌}
+use Prim.Native.Nat.{ℕ, ◌+◌, ◌<◌}
 use native.Mathlib.Numerals.{add-one}
 use native.Mathlib.Omega.{arith}
-use borrow.Author.Rules.{rules}
 use lib.ListN.{length, take, set, get_or, length-set}
 use lib.Seq.{sets, take_all, take-suc, length-take-le}
 use Rattle.table.proofs.Stores.{sets_then}
@@ -21,13 +20,12 @@ pub loop-i-init : goal.loop-i-init
 loop-i-init c = (omega arith, refl, refl)
 
 pub loop-i-preserved : goal.loop-i-preserved
-loop-i-preserved c =
-    (
-      omega arith,
-      simp length-set c.loop-i.invariant.1,
-      more c.args.out.now c.args.at c.args.text.now c.loop-i.out c.loop-i.i c.loop-i-test.true
-          c.loop-i.invariant.2,
-    )
+loop-i-preserved c = (
+  omega arith,
+  simp length-set c.loop-i.invariant.1,
+  more c.args.out.now c.args.at c.args.text.now c.loop-i.out c.loop-i.i c.loop-i-test.true
+      c.loop-i.invariant.2,
+)
 
 pub returns : goal.returns
 returns c =

@@ -4,7 +4,6 @@ use Prim.Native.Nat.{◌*◌, ◌≤◌}
 use native.Mathlib.Omega.{arith}
 use lib.ListN.{length}
 use Rattle.table.proofs.ReadLaws.{state_past}
-use borrow.Author.Rules.{rules}
 use Rattle.text.proofs.print.state.Goals as goal
 
 pub returns : goal.returns

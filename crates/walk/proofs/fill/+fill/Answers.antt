@@ -1,6 +1,7 @@
 -- A cell is written to its slot if there is one; of a box that is halved, the cells of the lower half are written and then those of the upper.
 -- `done` and `full` say what the writer's answers tell, `counted` and `least` how many cells are written. Assumes nothing.
 use mathlib.Core.Path.{◌≡◌, refl, sym, ap, ◌∙◌}
+use mathlib.Core.Bool.{Bool}
 use mathlib.Core.List.{List}
 use Prim.Native.Nat.{ℕ, suc, ◌+◌, ◌-◌, ◌/◌, ◌≤◌, ◌<◌}
 use native.Mathlib.Omega.{arith}
@@ -19,7 +20,7 @@ use Rattle.grade.specs.InUse.{in_use}
 use Rattle.walk.specs.declared.Counted.{Counted}
 use Rattle.walk.specs.declared.Filled.TheVariants.{Done, Full}
 use Rattle.walk.specs.FunctionsInUse.{settled, records_of}
-use Rattle.walk.specs.Counted.{filled_of}
+use Rattle.walk.specs.Counted.{filled_of, Written}
 use Rattle.walk.proofs.RecordLaws.{records_cell, records_halves, records_leaves}
 use Rattle.walk.proofs.CountedLaws.{counted_cells, counted_cell, counted_halves, counted_adds}
 use Rattle.walk.proofs.FilledLaws.{HasRoom, is_done, is_full, done_tells, full_tells}
@@ -51,12 +52,17 @@ full_high : (n low high x len now fresh : ℕ) → len / 32 + 1 < fresh + x - 1 
     → now / 32 + 1 < fresh + n
 full_high n low high x len now fresh h e f g p = omega arith
 
+-- then nothing is said of the bytes
+unwritten : (g : Gyroid) (axis : Box → Axis) (t : List ℕ) (d : ℕ) (b : Box) (slot fresh : ℕ) (last : Bool) (after limit : ℕ) (u : List ℕ)
+    → length t / 32 + 1 < fresh + leaves (settled g) axis d b → Written g axis t d b slot fresh last after limit u
+unwritten g axis t d b slot fresh last after limit u none h = absurd (omega arith)
+
 -- ---- a cell: it has no slot, or it is put there
 pub returns-then-t-fresh : goal.returns-then-t-fresh
 returns-then-t-fresh t c =
     let e = c.in-Cell.ensures in
     let none = full_cell _ _ _ (one _ _ _ _ e.value) c.if-t-fresh.true in
-    record { value = is_full _ _ _ _ _ _ none; written = λ h. absurd (omega (arith, none, h)); remembers_2 = e.remembers_2 }
+    record { value = is_full _ _ _ _ _ _ none; written = unwritten _ _ _ _ _ _ _ c.args.last c.args.after c.args.limit _ none; remembers_2 = e.remembers_2 }
 
 pub put_cell-requires-clause-within_ticks : goal.put_cell-requires-clause-within_ticks
 put_cell-requires-clause-within_ticks t c = within_ticks c.args.n.b c.requires.good
@@ -95,7 +101,7 @@ returns-in_default t c =
     let at = halves _ _ _ _ c.requires.good c.in-Halves.ensures.value in
     let e = c.in_default.ensures in
     let none = full_low _ _ _ _ _ (full _ _ _ _ _ _ e.value) (at.leaves2 c.lower-lower.ensures c.upper-upper.ensures) in
-    record { value = is_full _ _ _ _ _ _ none; written = λ h. absurd (omega (arith, none, h)); remembers_2 = e.remembers_2 }
+    record { value = is_full _ _ _ _ _ _ none; written = unwritten _ _ _ _ _ _ _ c.args.last c.args.after c.args.limit _ none; remembers_2 = e.remembers_2 }
 
 -- ---- the upper half, behind the cells of the lower
 pub overflow_add-mid : goal.overflow_add-mid
@@ -131,7 +137,7 @@ returns-in_default-high t c =
     let low = c.in-Done.ensures.value in
     let none = full_high _ _ _ _ _ _ _ (full _ _ _ _ _ _ e.value) (at.leaves2 c.lower-lower.ensures c.upper-upper.ensures)
     (counted _ _ _ _ _ _ low) c.fill-low.auto.t (least _ _ _ _ _ _ low) in
-    record { value = is_full _ _ _ _ _ _ none; written = λ h. absurd (omega (arith, none, h)); remembers_2 = e.remembers_2 }
+    record { value = is_full _ _ _ _ _ _ none; written = unwritten _ _ _ _ _ _ _ c.args.last c.args.after c.args.limit _ none; remembers_2 = e.remembers_2 }
 
 -- ---- both counts
 pub joined-requires : goal.joined-requires
