@@ -2,15 +2,38 @@
 // of what it reads is text::cells's contract. Where it could not write, it says so on standard error.
 #![tactic(auto)]
 
-use libc::{STDERR_FILENO, STDIN_FILENO, STDOUT_FILENO};
+ghost use Rattle.std.specs.Prelude.{◌≤◌, IfOk, length};
 
-fn main() {
-    // A line has 153 bytes at most, so a text that fills this is none, whatever follows: `front-decides` in text's LengthLaws.
+use std::io;
+use std::io::{ErrorKind, Read, Write};
+
+// Reads until s is full or the text ends; how many bytes it put at the front of s.
+fn read_full<R: Read>(text: &mut R, s: &mut [u8]) -> io::Result<usize>
+    ensures { IfOk result (λ n. n ≤ length s.new) }
+{
+    let mut done = 0;
+    for _ in 0..u64::MAX {
+        if done >= s.len() {
+            break;
+        }
+        match text.read(&mut s[done..]) {
+            Ok(0) => break,
+            Ok(n) => done += n,
+            Err(e) if e.kind() == ErrorKind::Interrupted => {}
+            Err(e) => return Err(e),
+        }
+    }
+    Ok(done)
+}
+
+fn main(rt: HostRuntime) -> io::Result<()> {
+    // A line has 153 bytes at most, so a text that fills this is none, whatever follows: `front_decides` in text's LengthLaws.
     let mut input = [0u8; 256];
-    let n = io::read_full(STDIN_FILENO, &mut input);
+    let n = read_full(&mut rt.stdin(), &mut input)?;
     let mut out = [0u8; 131072];
     let end = text::cells::cells(&input[..n], &mut out);
-    if !io::write_all(STDOUT_FILENO, &out[..end]) {
-        io::write_all(STDERR_FILENO, b"cells: could not write the listing\n");
+    if rt.stdout().write_all(&out[..end]).is_err() {
+        let _ = eprintln!(rt; "cells: could not write the listing");
     }
+    Ok(())
 }

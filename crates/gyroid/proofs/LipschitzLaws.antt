@@ -1,7 +1,5 @@
 -- The Lipschitz bound's fraction is 22/a and the slope's, over one denominator. Assumes nothing.
-use Prim.Native.Nat.{ℕ, ◌<◌}
 use native.Mathlib.Nat.{mul-pos}
-use lib.Dec.{ltb→lt}
 use lib.IntN.{ℤ, pos, negsuc, nat_abs, ◌+ℤ◌, ◌*ℤ◌}
 use lib.Signed.{◌<ℤ◌}
 use Rattle.exact.specs.Fraction.{ratio, whole, ◌+F◌, ◌/F◌, ◌≈F◌}

@@ -11,8 +11,6 @@ use Rattle.gyroid.specs.declared.Residual.{Residual}
 use Rattle.gyroid.specs.Turn
 use Rattle.gyroid.specs.Jet
 use Rattle.gyroid.specs.Residual
-use Rattle.grade.specs.declared.Piece.{Piece}
-use Rattle.grade.specs.declared.LinearIntervals.{LinearIntervals}
 use Rattle.grade.specs.declared.GradeIntervals.{GradeIntervals}
 use Rattle.gyroid.specs.declared.Compiled.{Compiled}
 use Rattle.gyroid.specs.declared.Shares.{Shares}

@@ -11,6 +11,7 @@ use limits::refusals::{or_else, refused};
 use limits::ticks::{tick, ticks};
 
 impl Frame {
+    #[tactic(auto, unfolding(crate::specs::Description::frame_in_limits))]
     pub fn in_limits(self) -> bool
         ensures { result ≡ frame_in_limits self }
     {
@@ -18,6 +19,7 @@ impl Frame {
         tick(self.w) & tick(self.x) & tick(self.y) & tick(self.z) & ticks(t)
     }
 
+    #[tactic(auto, unfolding(crate::specs::Description::part_frame))]
     pub fn is_part(self) -> bool
         ensures { result ≡ part_frame self }
     {
@@ -27,6 +29,7 @@ impl Frame {
 }
 
 impl Description {
+    #[tactic(auto, unfolding(crate::specs::Description::in_limits))]
     pub fn in_limits(self) -> bool
         ensures { result ≡ in_limits self }
     {

@@ -11,6 +11,7 @@ use interval::Interval;
 use interval::outward::larger;
 use interval::sums::difference_high;
 
+#[tactic(auto, unfolding(crate::specs::Residual::centre))]
 pub fn centre(w: [Interval; 3]) -> [Interval; 3]
     ensures { result ≡ centre w }
 {
@@ -21,6 +22,7 @@ pub fn centre(w: [Interval; 3]) -> [Interval; 3]
 }
 
 // The half-width of an interval.
+#[tactic(auto, unfolding(crate::specs::Residual::radius))]
 pub fn radius(b: Interval) -> f64
     ensures { result ≡ radius b }
 {
@@ -30,6 +32,7 @@ pub fn radius(b: Interval) -> f64
     larger(above, below)
 }
 
+#[tactic(auto, unfolding(crate::specs::Residual::radii))]
 pub fn radii(w: [Interval; 3]) -> [Interval; 3]
     ensures { result ≡ radii w }
 {
@@ -39,6 +42,7 @@ pub fn radii(w: [Interval; 3]) -> [Interval; 3]
     [x, y, z]
 }
 
+#[tactic(auto, unfolding(crate::specs::Residual::reach))]
 fn reach(d: Interval, r: Interval) -> Interval
     ensures { result ≡ reach d r }
 {
@@ -46,6 +50,7 @@ fn reach(d: Interval, r: Interval) -> Interval
 }
 
 // How far the first-order term reaches, for a gradient d and half-widths r.
+#[tactic(auto, unfolding(crate::specs::Residual::spread))]
 fn spread(d: [Interval; 3], r: [Interval; 3]) -> Interval
     ensures { result ≡ spread d r }
 {
@@ -56,6 +61,7 @@ fn spread(d: [Interval; 3], r: [Interval; 3]) -> Interval
 }
 
 // The half-widths' part of the quadratic term of Taylor's theorem.
+#[tactic(auto, unfolding(crate::specs::Residual::bracket_at))]
 pub fn bracket_at(surface: Surface, x: Interval, y: Interval, z: Interval) -> Interval
     ensures { result ≡ bracket_at surface x y z }
 {
@@ -66,6 +72,7 @@ pub fn bracket_at(surface: Surface, x: Interval, y: Interval, z: Interval) -> In
     }
 }
 
+#[tactic(auto, unfolding(crate::specs::Residual::bound))]
 fn bound(second: Interval, d: [Interval; 3], r: [Interval; 3]) -> f64
     ensures { result ≡ bound second d r }
 {

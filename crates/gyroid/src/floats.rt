@@ -11,6 +11,7 @@ pub fn finite(b: Interval) -> bool
     (-MAX <= b.lo) & (b.lo <= MAX) & (-MAX <= b.hi) & (b.hi <= MAX)
 }
 
+#[tactic(auto, unfolding(crate::specs::Refusals::all_finite))]
 pub fn all_finite(w: [Interval; 3]) -> bool
     ensures { result ≡ all_finite w }
 {

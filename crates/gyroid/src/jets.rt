@@ -7,6 +7,7 @@ ghost use Rattle.gyroid.specs.FunctionsInUse.{value_at, entry_at, less};
 use crate::{Gyroid, Jet, Surface, Turn, Waves};
 use interval::Interval;
 
+#[tactic(auto, unfolding(crate::specs::Jet::value_at))]
 pub fn value_at(
     surface: Surface,
     sx: Interval,
@@ -25,6 +26,7 @@ pub fn value_at(
 }
 
 // The gradient's entry on an axis, from the axis' sine and cosine, the cosine of the axis after it and the sine of the one before.
+#[tactic(auto, unfolding(crate::specs::Jet::entry_at))]
 fn entry_at(
     surface: Surface,
     sine: Interval,
@@ -41,6 +43,7 @@ fn entry_at(
     }
 }
 
+#[tactic(auto, unfolding(crate::specs::Jet::gradient_at))]
 pub fn gradient_at(
     surface: Surface,
     sx: Interval,
@@ -59,6 +62,7 @@ pub fn gradient_at(
     [x, y, z]
 }
 
+#[tactic(auto, unfolding(crate::specs::Jet::minus))]
 pub fn minus(a: [Interval; 3], b: [Interval; 3]) -> [Interval; 3]
     ensures { result ≡ minus a b }
 {
@@ -83,6 +87,7 @@ impl Jet {
         }
     }
 
+    #[tactic(auto, unfolding(crate::specs::Jet::less))]
     fn less(self, level: Interval, slope: [Interval; 3]) -> Jet
         ensures { result ≡ less self level slope }
     {
@@ -100,6 +105,7 @@ impl Jet {
 }
 
 impl Gyroid {
+    #[tactic(auto, unfolding(crate::specs::Jet::waves))]
     pub fn waves(self, p: [Interval; 3]) -> Waves
         ensures { result ≡ waves self p }
     {
@@ -116,6 +122,7 @@ impl Gyroid {
         Waves::Found(sx, cx, sy, cy, sz, cz)
     }
 
+    #[tactic(auto, unfolding(crate::specs::Jet::jet))]
     pub fn jet(self, p: [Interval; 3]) -> Jet
         ensures { result ≡ jet self p }
     {
@@ -131,6 +138,7 @@ impl Gyroid {
         }
     }
 
+    #[tactic(auto, unfolding(crate::specs::Jet::affine_jet))]
     pub fn affine_jet(self, p: [Interval; 3]) -> Jet
         ensures { result ≡ affine_jet self p }
     {

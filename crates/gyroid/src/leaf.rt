@@ -43,6 +43,7 @@ fn lipschitz_top(period: i64, slope: Slope) -> i64
     22528 * slope.distance + slope.rise * period
 }
 
+#[tactic(auto, using(crate::proofs::AcceptedLaws::bottom_within))]
 fn lipschitz_bottom(period: i64, slope: Slope) -> i64
     requires { Within 1048576 period × SlopeFits slope }
     ensures { result ≡ lipschitz_bottom period slope }
@@ -90,6 +91,7 @@ impl Gyroid {
     }
 
     // The leaf of a refused description.
+    #[tactic(auto, unfolding(crate::specs::Constructors::no_leaf))]
     fn none() -> Gyroid
         ensures { result ≡ no_leaf }
     {
@@ -117,6 +119,7 @@ impl Gyroid {
         }
     }
 
+    #[tactic(auto, unfolding(crate::specs::Constructors::certified))]
     pub fn certified(description: Description) -> Compiled
         ensures { result ≡ certified description }
     {
@@ -133,6 +136,7 @@ impl Gyroid {
         }
     }
 
+    #[tactic(auto, unfolding(crate::specs::Constructors::new))]
     pub fn new(description: Description) -> Compiled
         ensures { result ≡ new description }
     {

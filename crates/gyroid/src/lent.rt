@@ -25,6 +25,7 @@ fn is_primitive(surface: Surface) -> bool
     }
 }
 
+#[tactic(auto, unfolding(crate::specs::Numbers::leaf_numbers))]
 pub fn numbers_of(g: Gyroid) -> [f64; 34]
     ensures { result ≡ leaf_numbers g }
 {
@@ -114,6 +115,7 @@ fn linear_at(l: &[f64; 34]) -> LinearIntervals
 }
 
 // The leaf again, for what is to be made by it.
+#[tactic(auto, unfolding(crate::specs::Numbers::leaf_at))]
 pub fn leaf_at(l: &[f64; 34]) -> Gyroid
     ensures { result ≡ leaf_at l.now }
 {

@@ -20,6 +20,7 @@ use grade::intervals::{divided, piece_of, risen, zeros};
 use grade::{LevelKind, Piece, PieceAnswer};
 use interval::Interval;
 
+#[tactic(auto, unfolding(crate::specs::Jet::value_at))]
 fn value(
     surface: Surface,
     sx: Interval,
@@ -37,6 +38,7 @@ fn value(
     }
 }
 
+#[tactic(auto, unfolding(crate::specs::Jet::gradient_at, crate::specs::Jet::entry_at))]
 fn gradient(
     surface: Surface,
     sx: Interval,
@@ -65,6 +67,7 @@ fn gradient(
     }
 }
 
+#[tactic(auto, unfolding(crate::specs::Residual::reach))]
 fn reach(d: Interval, r: f64) -> Interval
     ensures { result ≡ reach d (point r) }
 {
@@ -72,6 +75,7 @@ fn reach(d: Interval, r: f64) -> Interval
 }
 
 // The first-order term.
+#[tactic(auto, unfolding(crate::specs::Residual::spread, crate::specs::Jet::minus))]
 fn spread(d: [Interval; 3], slope: [Interval; 3], rx: f64, ry: f64, rz: f64) -> Interval
     ensures { result ≡ spread (minus d slope) (point rx ∷ point ry ∷ point rz ∷ []) }
 {
@@ -81,6 +85,7 @@ fn spread(d: [Interval; 3], slope: [Interval; 3], rx: f64, ry: f64, rz: f64) -> 
     Interval::point(0.0).add(x).add(y).add(z)
 }
 
+#[tactic(auto, unfolding(crate::specs::Residual::second_order, crate::specs::Residual::bracket_at))]
 fn second_order(surface: Surface, k2: Interval, rx: f64, ry: f64, rz: f64) -> Interval
     ensures { result ≡ second_order in_use surface k2 (point rx ∷ point ry ∷ point rz ∷ []) }
 {
@@ -95,6 +100,7 @@ fn second_order(surface: Surface, k2: Interval, rx: f64, ry: f64, rz: f64) -> In
 }
 
 // The second-order term of the radii that stand from x, y and z on.
+#[tactic(auto, unfolding(crate::specs::Numbers::second_of, crate::specs::Numbers::leaf_at))]
 pub fn second_made(leaf: &[f64; 34], v: &[f64; 1984], x: usize, y: usize, z: usize) -> Interval
     requires { (x + 10 ≤ 1920) × (y + 10 ≤ 1920) × (z + 10 ≤ 1920) }
     ensures { result ≡ second_at (leaf_at leaf.now) v.now x y z }
@@ -111,12 +117,14 @@ pub fn second_made(leaf: &[f64; 34], v: &[f64; 1984], x: usize, y: usize, z: usi
 }
 
 // The linear level where it is t.
+#[tactic(auto, using(grade::proofs::IntervalLaws::level_of_is))]
 fn level_of(leaf: &[f64; 34], t: Interval) -> Interval
     ensures { result ≡ level_of in_use (linear_at leaf.now) t }
 {
     risen(interval_at(leaf, 24), interval_at(leaf, 26), t)
 }
 
+#[tactic(auto, using(grade::proofs::LinearLaws::start_gradient, grade::proofs::LinearLaws::ramp_gradient, grade::proofs::LinearLaws::end_gradient), unfolding(crate::specs::Numbers::leaf_at))]
 fn slope_on(leaf: &[f64; 34], piece: Piece) -> [Interval; 3]
     requires { kind_at leaf.now ≡ LevelKind.Linear }
     ensures { result ≡ piece_gradient (leaf_at leaf.now).intervals piece }
@@ -129,6 +137,7 @@ fn slope_on(leaf: &[f64; 34], piece: Piece) -> [Interval; 3]
 }
 
 // The linear level about the centre, where t is m, of a box that has t.
+#[tactic(auto, unfolding(crate::specs::Numbers::leaf_at))]
 fn about_at(leaf: &[f64; 34], t: Interval, m: Interval) -> LevelAbout
     requires { kind_at leaf.now ≡ LevelKind.Linear }
     ensures { result ≡ about_at (leaf_at leaf.now).intervals t m }
@@ -151,6 +160,7 @@ fn about_at(leaf: &[f64; 34], t: Interval, m: Interval) -> LevelAbout
 }
 
 // The level about the centre of the box.
+#[tactic(auto, using(grade::proofs::IntervalLaws::parameter_of_is), unfolding(crate::specs::Parts::level_about, crate::specs::Numbers::leaf_at))]
 fn level_about(leaf: &[f64; 34], v: &[f64; 1984], x: usize, y: usize, z: usize) -> LevelAbout
     requires { (x + 10 ≤ 1920) × (y + 10 ≤ 1920) × (z + 10 ≤ 1920) }
     ensures { result ≡ level_about (leaf_at leaf.now).intervals (leaf_at leaf.now).interval_level
@@ -176,6 +186,7 @@ fn level_about(leaf: &[f64; 34], v: &[f64; 1984], x: usize, y: usize, z: usize) 
 }
 
 // The surface less a level that is `level` at the centre and has the gradient `slope`; `second` is the second-order term.
+#[tactic(auto, unfolding(crate::specs::Parts::joined_about, crate::specs::Numbers::leaf_at, crate::specs::Numbers::second_of, crate::specs::Residual::bound))]
 fn about(
     leaf: &[f64; 34],
     v: &[f64; 1984],
@@ -218,6 +229,7 @@ pub fn found(v: &[f64; 1984], x: usize, y: usize, z: usize) -> bool
 }
 
 // The state of a box whose second-order term is `second`, where all is found.
+#[tactic(auto, unfolding(crate::specs::Parts::joined_of))]
 pub fn state_at(
     leaf: &[f64; 34],
     v: &[f64; 1984],

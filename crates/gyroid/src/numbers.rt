@@ -39,6 +39,7 @@ pub fn three_at(v: &[f64], i: usize) -> [Interval; 3]
     [x, y, z]
 }
 
+#[tactic(auto, unfolding(crate::specs::Numbers::part_at))]
 pub fn found_at(v: &[f64; 1984], i: usize) -> bool
     requires { i + 10 ≤ 1920 }
     ensures { result ≡ (part_at v.now i).found }
@@ -46,6 +47,7 @@ pub fn found_at(v: &[f64; 1984], i: usize) -> bool
     truth_at(v, i + 9)
 }
 
+#[tactic(auto, unfolding(crate::specs::Numbers::part_at))]
 pub fn radius_at(v: &[f64; 1984], i: usize) -> f64
     requires { i + 10 ≤ 1920 }
     ensures { result ≡ (part_at v.now i).radius }
@@ -54,6 +56,7 @@ pub fn radius_at(v: &[f64; 1984], i: usize) -> f64
 }
 
 // Sine and cosine.
+#[tactic(auto, unfolding(crate::specs::Numbers::part_at))]
 pub fn circle_at(v: &[f64; 1984], i: usize) -> Circle
     requires { i + 10 ≤ 1920 }
     ensures { result ≡ record { sine = (part_at v.now i).sine; cosine = (part_at v.now i).cosine } }
@@ -64,6 +67,7 @@ pub fn circle_at(v: &[f64; 1984], i: usize) -> Circle
     }
 }
 
+#[tactic(auto, unfolding(crate::specs::Numbers::part_at))]
 pub fn shares_at(v: &[f64; 1984], i: usize) -> Shares
     requires { i + 10 ≤ 1920 }
     ensures { result ≡ (part_at v.now i).shares }
@@ -74,6 +78,7 @@ pub fn shares_at(v: &[f64; 1984], i: usize) -> Shares
     }
 }
 
+#[tactic(auto, using(crate::proofs::NumberLaws::ten_stores), unfolding(crate::specs::Numbers::part_numbers))]
 pub fn put_part(v: &mut [f64; 1984], i: usize, p: Part)
     requires { i + 10 ≤ 1920 }
     ensures { v.new ≡ sets v.old i (part_numbers p) }

@@ -24,6 +24,7 @@ impl Shares {
 }
 
 // The kind is told first: a constant level's shares cost no copy of the linear level's numbers.
+#[tactic(auto, using(grade::proofs::IntervalLaws::along_axis_is), unfolding(crate::specs::Parts::shares))]
 fn shares(levels: GradeIntervals, axis: usize, b: Interval, m: Interval) -> Shares
     requires { axis < 3 }
     ensures { result ≡ shares levels axis b m }
@@ -71,6 +72,7 @@ pub fn held_on(piece: Piece, m: Interval) -> Interval
 }
 
 // The linear level about the centre, where t is m, of a box that has t.
+#[tactic(auto, using(grade::proofs::IntervalLaws::level_of_is))]
 fn about_at(levels: GradeIntervals, t: Interval, m: Interval) -> LevelAbout
     ensures { result ≡ about_at levels t m }
 {
@@ -94,6 +96,7 @@ fn about_at(levels: GradeIntervals, t: Interval, m: Interval) -> LevelAbout
 }
 
 // Of a constant level, whose interval `level` is, or of a linear one from its shares. t is formed once, for the piece and for the range.
+#[tactic(auto, using(grade::proofs::IntervalLaws::parameter_of_is), unfolding(crate::specs::Parts::level_about))]
 fn level_about(
     levels: GradeIntervals,
     level: Interval,
@@ -121,6 +124,7 @@ fn level_about(
 }
 
 // The surface less a level that is `level` at the centre and has the gradient `slope`; k is the wave and k2 its square.
+#[tactic(auto, unfolding(crate::specs::Parts::joined_about, crate::specs::Residual::second_order))]
 fn joined_about(
     surface: Surface,
     k: Interval,
@@ -148,6 +152,7 @@ fn joined_about(
 }
 
 // The residual over the box whose parts these are, from what it reads of the leaf.
+#[tactic(auto, unfolding(crate::specs::Parts::joined_of))]
 fn joined_of(
     surface: Surface,
     levels: GradeIntervals,
@@ -173,6 +178,7 @@ fn joined_of(
 }
 
 impl Gyroid {
+    #[tactic(auto, unfolding(crate::specs::Parts::part))]
     pub fn part(self, axis: usize, b: Interval) -> Part
         requires { axis < 3 }
         ensures { result ≡ part self axis b }
@@ -213,6 +219,7 @@ impl Gyroid {
     }
 
     // The residual over a box of a level that is `level` at the centre and has the gradient `slope`.
+    #[tactic(auto, using(crate::proofs::PartLaws::expansion_joined))]
     pub fn expansion(self, world: [Interval; 3], level: Interval, slope: [Interval; 3]) -> Residual
         ensures { result ≡ expansion self world level slope }
     {

@@ -28,6 +28,7 @@ impl Residual {
 }
 
 impl Gyroid {
+    #[tactic(auto, using(crate::proofs::PartLaws::joined_residual))]
     pub fn residual(self, world: [Interval; 3]) -> Residual
         ensures { result ≡ residual self world }
     {
@@ -37,6 +38,7 @@ impl Gyroid {
         self.joined(x, y, z)
     }
 
+    #[tactic(auto, unfolding(crate::specs::Residual::affine_residual))]
     pub fn affine_residual(self, world: [Interval; 3]) -> Residual
         ensures { result ≡ affine_residual self world }
     {
@@ -51,6 +53,7 @@ impl Gyroid {
         }
     }
 
+    #[tactic(auto, unfolding(crate::specs::Residual::box_state))]
     pub fn box_state(self, world: [Interval; 3]) -> State
         ensures { result ≡ box_state self world }
     {

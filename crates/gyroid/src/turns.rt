@@ -20,6 +20,7 @@ fn reducible(t: Interval) -> bool
 }
 
 // The angle that is left of a turn once q quarters are taken off.
+#[tactic(auto, unfolding(crate::specs::Turn::reduced))]
 fn reduced(t: Interval, q: i64, two_pi: Interval) -> Interval
     ensures { result ≡ reduced t q two_pi }
 {
@@ -40,6 +41,7 @@ pub fn symmetric(x: f64) -> Interval
     Interval::new(-x, x)
 }
 
+#[tactic(auto, unfolding(crate::specs::Turn::turned))]
 fn turned(m: u64, sine: Interval, cosine: Interval) -> Turn
     ensures { result ≡ turned m sine cosine }
 {
@@ -53,6 +55,7 @@ fn turned(m: u64, sine: Interval, cosine: Interval) -> Turn
 
 impl Gyroid {
     // Horner's rule in both series side by side, neither of which waits for the other, written out: so no coefficient is copied.
+    #[tactic(auto, unfolding(crate::specs::Turn::horner))]
     fn series(self, x: Interval) -> Circle
         ensures { result ≡ record { sine = horner self.sine x 8; cosine = horner self.cosine x 8 } }
     {
@@ -75,6 +78,7 @@ impl Gyroid {
         Circle { sine: s, cosine: c }
     }
 
+    #[tactic(auto, unfolding(crate::specs::Turn::sine_at, crate::specs::Turn::cosine_at))]
     fn circle(self, u: Interval) -> Circle
         ensures { result ≡ record { sine = sine_at self u; cosine = cosine_at self u } }
     {

@@ -5,7 +5,9 @@
 mod case; // a text of the list and its answer, read and tried
 
 use case::Seen;
-use libc::STDOUT_FILENO;
+use std::fs::File;
+use std::io;
+use std::io::Read;
 
 #[derive(Clone, Copy)]
 struct Tally {
@@ -25,21 +27,19 @@ impl Tally {
 
     fn same(self) -> Tally {
         Tally {
-            seen: std::num::wrapping_add_u64(self.seen, 1),
+            seen: self.seen.wrapping_add(1),
             bad: self.bad,
             more: true,
         }
     }
 
-    fn differs(self, more: bool) -> Tally {
-        io::write_all(STDOUT_FILENO, b"differs: ");
-        io::print_decimal(STDOUT_FILENO, self.seen);
-        io::write_all(STDOUT_FILENO, b"\n");
-        Tally {
-            seen: std::num::wrapping_add_u64(self.seen, 1),
-            bad: std::num::wrapping_add_u64(self.bad, 1),
-            more: more,
-        }
+    fn differs(self, rt: &impl Print, more: bool) -> io::Result<Tally> {
+        println!(rt; "differs: {}", self.seen)?;
+        Ok(Tally {
+            seen: self.seen.wrapping_add(1),
+            bad: self.bad.wrapping_add(1),
+            more,
+        })
     }
 
     fn ended(self) -> Tally {
@@ -51,41 +51,36 @@ impl Tally {
     }
 
     // A list that breaks off counts as one text that differs.
-    fn counted(self, s: Seen) -> Tally {
+    fn counted(self, rt: &impl Print, s: Seen) -> io::Result<Tally> {
         match s {
-            Seen::Same => self.same(),
-            Seen::Differs => self.differs(true),
-            Seen::Broken => self.differs(false),
-            Seen::End => self.ended(),
+            Seen::Same => Ok(self.same()),
+            Seen::Differs => self.differs(rt, true),
+            Seen::Broken => self.differs(rt, false),
+            Seen::End => Ok(self.ended()),
         }
     }
 
-    fn print(self) {
-        io::print_decimal(STDOUT_FILENO, self.seen);
-        io::write_all(STDOUT_FILENO, b" texts, ");
-        io::print_decimal(STDOUT_FILENO, self.bad);
-        io::write_all(STDOUT_FILENO, b" differ\n");
+    fn print(self, rt: &impl Print) -> io::Result<()> {
+        println!(rt; "{} texts, {} differ", self.seen, self.bad)
     }
 }
 
-fn all(fd: i32) -> Tally {
-    let mut turns = u64::MAX;
+fn all<R: Read>(rt: &impl Print, list: &mut R) -> io::Result<Tally> {
     let mut t = Tally::none();
-    while turns > 0 && t.more {
-        t = t.counted(case::next(fd));
-        turns -= 1;
+    for _ in 0..u64::MAX {
+        if !t.more {
+            break;
+        }
+        t = t.counted(rt, case::next(list)?)?;
     }
-    t
+    Ok(t)
 }
 
-fn main() {
-    let path = b"lines";
-    let fd = os::open_read(path);
-    if fd < 0 {
-        os::fail(path);
-        return;
+// A list that cannot be opened is named on standard error.
+fn main(rt: HostRuntime) -> io::Result<()> {
+    let path = "lines";
+    match File::open(&rt, path) {
+        Ok(mut list) => all(&rt, &mut list)?.print(&rt),
+        Err(e) => eprintln!(rt; "{path}: {e}"),
     }
-    let t = all(fd);
-    libc::close(fd);
-    t.print();
 }

@@ -3,11 +3,13 @@
 ghost use Rattle.std.specs.Prelude.{◌+◌, ◌≤◌, length};
 
 use crate::tally::Tally;
-use crate::words::{float_of, number, same, word};
+use crate::words::{float_of, number, read_full, same, word};
 use interval::Interval;
 use interval::floor::{floor, modulo_four, quarter_number};
 use interval::nearest::{nearest, whole};
 use interval::step::{next_down, next_up};
+use std::io;
+use std::io::Read;
 
 const OFFSET: u64 = 0x20_0000_0000_0000;
 
@@ -120,31 +122,30 @@ fn matches(s: &[u8], at: usize) -> bool
 }
 
 // The cases of s, each of 56 bytes.
-fn block(s: &[u8], t: Tally) -> Tally {
+fn block(rt: &impl Print, s: &[u8], t: Tally) -> io::Result<Tally> {
     let mut u = t;
-    let mut at: usize = 0;
-    while 56 <= s.len() - at {
-        u = u.counted(b"interval", matches(s, at));
-        at += 56;
+    for i in 0..s.len() / 56 {
+        u = u.counted(rt, "interval", matches(s, 56 * i))?;
     }
-    u
+    Ok(u)
 }
 
-fn some(fd: i32, t: Tally) -> Tally {
+fn some<R: Read>(rt: &impl Print, list: &mut R, t: Tally) -> io::Result<Tally> {
     let mut buf = [0u8; 57344];
-    let n = io::read_full(fd, &mut buf);
+    let n = read_full(list, &mut buf)?;
     if n == 0 {
-        return t.ended();
+        return Ok(t.ended());
     }
-    block(&buf[..n], t)
+    block(rt, &buf[..n], t)
 }
 
-pub(crate) fn all(fd: i32) -> Tally {
-    let mut turns = u64::MAX;
+pub(crate) fn all<R: Read>(rt: &impl Print, list: &mut R) -> io::Result<Tally> {
     let mut u = Tally::none();
-    while turns > 0 && u.more {
-        u = some(fd, u);
-        turns -= 1;
+    for _ in 0..u64::MAX {
+        if !u.more {
+            break;
+        }
+        u = some(rt, list, u)?;
     }
-    u
+    Ok(u)
 }

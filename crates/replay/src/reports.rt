@@ -6,6 +6,8 @@ ghost use Rattle.std.specs.Prelude.{◌≤◌, length};
 use crate::lent::{LONGEST, length_of, read_padded, set_unwritten};
 use crate::tally::Tally;
 use crate::words::{offset, read_words};
+use std::io;
+use std::io::Read;
 
 // Whether the call returns the case's status and leaves these bytes in the report.
 fn leaves(w: [u64; 42], table: &[u8], report: &mut [u8], bytes: &[u8]) -> bool {
@@ -14,7 +16,7 @@ fn leaves(w: [u64; 42], table: &[u8], report: &mut [u8], bytes: &[u8]) -> bool {
     if status as i64 != offset(w[4]) {
         return false;
     }
-    check::same(report, bytes)
+    *report == *bytes
 }
 
 // The same with a table of n bytes and a report of m bytes.
@@ -28,46 +30,54 @@ fn matches(w: [u64; 42], table: &[u8], n: usize, bytes: &[u8], m: usize) -> bool
 }
 
 // A list that breaks off counts as one answer that differs.
-fn broken(t: Tally) -> Tally {
-    let u = t.counted(b"layers", false);
-    u.ended()
+fn broken(rt: &impl Print, t: Tally) -> io::Result<Tally> {
+    let u = t.counted(rt, "layers", false)?;
+    Ok(u.ended())
 }
 
 // A case whose table has n bytes and whose report has m.
-fn bytes_of(fd: i32, w: [u64; 42], n: usize, m: usize, t: Tally) -> Tally
+fn bytes_of<R: Read>(
+    rt: &impl Print,
+    list: &mut R,
+    w: [u64; 42],
+    n: usize,
+    m: usize,
+    t: Tally,
+) -> io::Result<Tally>
     requires n_bound { n ≤ 4096 }
     requires m_bound { m ≤ 4096 }
 {
     let mut table = [0u8; LONGEST];
     let mut bytes = [0u8; LONGEST];
-    if read_padded(fd, &mut table, n) {
-        if read_padded(fd, &mut bytes, m) {
-            return t.counted(b"layers", matches(w, &table, n, &bytes, m));
+    if read_padded(list, &mut table, n)? {
+        if read_padded(list, &mut bytes, m)? {
+            return t.counted(rt, "layers", matches(w, &table, n, &bytes, m));
         }
     }
-    broken(t)
+    broken(rt, t)
 }
 
-fn case(fd: i32, t: Tally) -> Tally {
-    let words = read_words(fd, 5);
+fn case<R: Read>(rt: &impl Print, list: &mut R, t: Tally) -> io::Result<Tally> {
+    let words = read_words(list, 5)?;
     if words.bytes == 0 {
-        return t.ended();
+        return Ok(t.ended());
     }
     let w = words.at;
     let n = length_of(w[2]);
     let m = length_of(w[3]);
     if words.bytes < 40 || n > LONGEST || m > LONGEST {
-        return broken(t);
+        return broken(rt, t);
     }
-    bytes_of(fd, w, n, m, t)
+    bytes_of(rt, list, w, n, m, t)
 }
 
-pub(crate) fn all(fd: i32) -> Tally {
-    let mut turns = u64::MAX;
+pub(crate) fn all<R: Read>(rt: &impl Print, list: &mut R) -> io::Result<Tally> {
     let mut t = Tally::none();
-    while turns > 0 && t.more {
-        t = case(fd, t);
-        turns -= 1;
+    for _ in 0..u64::MAX {
+        if !t.more {
+            break;
+        }
+        t = case(rt, list, t)?;
     }
-    t
+    Ok(t)
 }

@@ -1,5 +1,5 @@
 // How many cases were seen and how many differ; one that differs is named by its list and its place, counted from 0.
-use libc::STDOUT_FILENO;
+use std::io;
 
 #[derive(Clone, Copy)]
 pub(crate) struct Tally {
@@ -27,33 +27,24 @@ impl Tally {
     }
 
     // One more case seen.
-    pub(crate) fn counted(self, list: &[u8], good: bool) -> Tally {
-        let next = std::num::wrapping_add_u64(self.seen, 1);
+    pub(crate) fn counted(self, rt: &impl Print, list: &str, good: bool) -> io::Result<Tally> {
+        let next = self.seen.wrapping_add(1);
         if good {
-            return Tally {
+            return Ok(Tally {
                 seen: next,
                 bad: self.bad,
                 more: self.more,
-            };
+            });
         }
-        io::write_all(STDOUT_FILENO, b"differs: ");
-        io::write_all(STDOUT_FILENO, list);
-        io::write_all(STDOUT_FILENO, b" ");
-        io::print_decimal(STDOUT_FILENO, self.seen);
-        io::write_all(STDOUT_FILENO, b"\n");
-        Tally {
+        println!(rt; "differs: {list} {}", self.seen)?;
+        Ok(Tally {
             seen: next,
-            bad: std::num::wrapping_add_u64(self.bad, 1),
+            bad: self.bad.wrapping_add(1),
             more: self.more,
-        }
+        })
     }
 
-    pub(crate) fn print(self, list: &[u8]) {
-        io::write_all(STDOUT_FILENO, list);
-        io::write_all(STDOUT_FILENO, b": ");
-        io::print_decimal(STDOUT_FILENO, self.seen);
-        io::write_all(STDOUT_FILENO, b" answers, ");
-        io::print_decimal(STDOUT_FILENO, self.bad);
-        io::write_all(STDOUT_FILENO, b" differ\n");
+    pub(crate) fn print(self, rt: &impl Print, list: &str) -> io::Result<()> {
+        println!(rt; "{list}: {} answers, {} differ", self.seen, self.bad)
     }
 }

@@ -6,6 +6,8 @@ ghost use Rattle.std.specs.Prelude.{◌≤◌, length};
 use crate::lent::{LONGEST, length_of, read_padded, set_unwritten};
 use crate::tally::Tally;
 use crate::words::{bounds, entries, narrow, offset, read_words};
+use std::io;
+use std::io::Read;
 
 // Whether the walk returns the case's status and leaves these bytes in the table.
 fn leaves(w: [u64; 42], table: &mut [u8], bytes: &[u8]) -> bool {
@@ -16,7 +18,7 @@ fn leaves(w: [u64; 42], table: &mut [u8], bytes: &[u8]) -> bool {
     if status as i64 != offset(w[27]) {
         return false;
     }
-    check::same(table, bytes)
+    *table == *bytes
 }
 
 // The same in a table of n bytes.
@@ -29,41 +31,48 @@ fn matches(w: [u64; 42], bytes: &[u8], n: usize) -> bool
 }
 
 // A list that breaks off counts as one answer that differs.
-fn broken(t: Tally) -> Tally {
-    let u = t.counted(b"walks", false);
-    u.ended()
+fn broken(rt: &impl Print, t: Tally) -> io::Result<Tally> {
+    let u = t.counted(rt, "walks", false)?;
+    Ok(u.ended())
 }
 
 // A case whose table has n bytes.
-fn table_of(fd: i32, w: [u64; 42], n: usize, t: Tally) -> Tally
+fn table_of<R: Read>(
+    rt: &impl Print,
+    list: &mut R,
+    w: [u64; 42],
+    n: usize,
+    t: Tally,
+) -> io::Result<Tally>
     requires { n ≤ 4096 }
 {
     let mut bytes = [0u8; LONGEST];
-    if read_padded(fd, &mut bytes, n) {
-        return t.counted(b"walks", matches(w, &bytes, n));
+    if read_padded(list, &mut bytes, n)? {
+        return t.counted(rt, "walks", matches(w, &bytes, n));
     }
-    broken(t)
+    broken(rt, t)
 }
 
-fn case(fd: i32, t: Tally) -> Tally {
-    let words = read_words(fd, 28);
+fn case<R: Read>(rt: &impl Print, list: &mut R, t: Tally) -> io::Result<Tally> {
+    let words = read_words(list, 28)?;
     if words.bytes == 0 {
-        return t.ended();
+        return Ok(t.ended());
     }
     let w = words.at;
     let n = length_of(w[26]);
     if words.bytes < 224 || n > LONGEST {
-        return broken(t);
+        return broken(rt, t);
     }
-    table_of(fd, w, n, t)
+    table_of(rt, list, w, n, t)
 }
 
-pub(crate) fn all(fd: i32) -> Tally {
-    let mut turns = u64::MAX;
+pub(crate) fn all<R: Read>(rt: &impl Print, list: &mut R) -> io::Result<Tally> {
     let mut t = Tally::none();
-    while turns > 0 && t.more {
-        t = case(fd, t);
-        turns -= 1;
+    for _ in 0..u64::MAX {
+        if !t.more {
+            break;
+        }
+        t = case(rt, list, t)?;
     }
-    t
+    Ok(t)
 }

@@ -1,5 +1,8 @@
 // Eight-byte words of a list: what a double, a whole number or an offset number stands for, and how a case's words are read.
-ghost use Rattle.std.specs.Prelude.{◌+◌, ◌^◌, ◌≤◌, length, unsigned_abs};
+ghost use Rattle.std.specs.Prelude.{◌+◌, ◌^◌, ◌≤◌, IfOk, length, unsigned_abs};
+
+use std::io;
+use std::io::{ErrorKind, Read};
 
 fn wide(x: u8) -> u64 {
     x as u64
@@ -76,29 +79,46 @@ fn words_of(s: &[u8]) -> [u64; 42]
     requires { 336 ≤ length s.now }
 {
     let mut w = [0u64; 42];
-    let mut i: usize = 0;
-    while i < 42 {
+    for i in 0..42 {
         w[i] = word(s, 8 * i);
-        i += 1;
     }
     w
 }
 
+// Reads until s is full or the list ends; how many bytes it put at the front of s.
+pub(crate) fn read_full<R: Read>(list: &mut R, s: &mut [u8]) -> io::Result<usize>
+    ensures { IfOk result (λ n. n ≤ length s.new) }
+{
+    let mut done = 0;
+    for _ in 0..u64::MAX {
+        if done >= s.len() {
+            break;
+        }
+        match list.read(&mut s[done..]) {
+            Ok(0) => break,
+            Ok(n) => done += n,
+            Err(e) if e.kind() == ErrorKind::Interrupted => {}
+            Err(e) => return Err(e),
+        }
+    }
+    Ok(done)
+}
+
 // Reads the next n bytes of the list to the front of s, or fewer where the list ends; how many.
-pub(crate) fn read_front(fd: i32, s: &mut [u8], n: usize) -> usize
+pub(crate) fn read_front<R: Read>(list: &mut R, s: &mut [u8], n: usize) -> io::Result<usize>
     requires { n ≤ length s.old }
 {
-    io::read_full(fd, &mut s[..n])
+    read_full(list, &mut s[..n])
 }
 
 // The next n words of the list.
-pub(crate) fn read_words(fd: i32, n: usize) -> Words
+pub(crate) fn read_words<R: Read>(list: &mut R, n: usize) -> io::Result<Words>
     requires { n ≤ 42 }
 {
     let mut s = [0u8; 336];
-    let bytes = read_front(fd, &mut s, 8 * n);
+    let bytes = read_front(list, &mut s, 8 * n)?;
     let w = words_of(&s);
-    Words { bytes, at: w }
+    Ok(Words { bytes, at: w })
 }
 
 // A description.
