@@ -3,12 +3,12 @@
 // promises of its number and of its table.
 #![tactic(auto)]
 
-pub mod calls; // the walk, counted and then written
+pub mod two_passes; // the walk, counted and then written
 
 ghost use Rattle.std.specs.Prelude.{◌≡◌, length};
 ghost use Rattle.capi.specs.Exports as exports;
 
-use crate::calls::walk_twice;
+use crate::two_passes::walk_twice;
 use capi::lengths::walk_lent;
 use capi::reading::{describe, rule_of, whole_point};
 

@@ -24,7 +24,7 @@ use Rattle.walk.proofs.CountedLaws.{counted_cells, counted_most}
 use Rattle.walk.proofs.FilledLaws.{HasRoom}
 use Rattle.walk.proofs.CallLaws.{room_refused, root_placed, room_done}
 use Rattle.walk.proofs.SameLaws.{same_refusal, same_table}
-use Rattle.twice.proofs.calls.run_twice.Goals as goal
+use Rattle.twice.proofs.two_passes.run_twice.Goals as goal
 
 -- the leaf that is lent gives every box its state
 same : (g : Gyroid) → Lendable g → {l : List Float} → l ≡ leaf_numbers g → (w : List Interval) → box_state (leaf_at l) w ≡ box_state g w

@@ -14,7 +14,7 @@ use Rattle.tree.specs.Box.{Good}
 use Rattle.walk.specs.Walk.{entry_refusal}
 use Rattle.walk.proofs.CallLaws.{Entered, entered, walk_refused, walk_ran, entry_number, depth_cast, depth_small}
 use Rattle.walk.proofs.CallLaws.{made_lendable, ran_number, ran_table}
-use Rattle.twice.proofs.calls.walk_twice.Goals as goal
+use Rattle.twice.proofs.two_passes.walk_twice.Goals as goal
 
 -- the refusals before 13 as the code asks them, and what they leave where there is none of them
 module _ (d : Description) (lo hi : List ℤ) {D : ℤ} {m : Compiled} (f : SFits w64 D) (made : m ≡ certified d) {n : ℕ}
