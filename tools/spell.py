@@ -91,14 +91,17 @@ def own_of(text, table, mine):
     return own - theirs, theirs - own
 
 
-def turned(text, own, theirs, fields):
-    aliases = tuple(a + "." for path, a in re.findall(r"(?m)^use (\S+) as (\S+)$", text) if not is_own(path))
+def aliases_of(text):
+    """The short names of library modules in a file, with the dot behind them."""
+    return tuple(a + "." for path, a in re.findall(r"(?m)^use (\S+) as (\S+)$", text) if not is_own(path))
 
+
+def turned(text, own, theirs, fields, aliases=()):
     def word(m):
         name, before = m[0], text[: m.start()]
-        if name in theirs:
+        if name in theirs or aliases and before.endswith(aliases):
             return name
-        dotted = before.endswith(".") and not before.endswith(aliases)
+        dotted = before.endswith(".")
         field = re.match(r" *= ", text[m.end() :]) and re.search(r"(?:[{;]|\n) *$", before)
         if name in own or (dotted or field) and name in fields:
             return snake(name)
@@ -153,12 +156,12 @@ def main():
             result = "".join([*out, text[at:]])
             result = re.sub(r"//[^\n]*", lambda m: SPAN.sub(lambda s: turned(s[0], table, (), fields), m[0]), result)
         else:
-            out, at = [], 0
+            out, at, aliases = [], 0, aliases_of(text)
             for m in QUIET.finditer(text):
                 said = m[0] if m[0][0] == '"' else turned(m[0], own & words - {"second-order"}, theirs, fields - {"second-order"})
-                out += [turned(text[at : m.start()], own, theirs, fields), said]
+                out += [turned(text[at : m.start()], own, theirs, fields, aliases), said]
                 at = m.end()
-            result = "".join([*out, turned(text[at:], own, theirs, fields)])
+            result = "".join([*out, turned(text[at:], own, theirs, fields, aliases)])
         if result != text and not check:
             open(f, "w", encoding="utf-8").write(result)
     # A name that the kit's port.py spelled anew in the code alone
