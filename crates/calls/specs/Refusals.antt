@@ -30,7 +30,7 @@ box_refusal w = refused (not (all_ordered w)) 9 or_else refused (not (all_near w
 unfoldable pub has_infinite : List Interval → Bool
 has_infinite w = not (all_finite w)
 
--- the number alone of a call that meets an infinite end between 9 and 10 (`byRows` of specs/Calls has the rows)
+-- the number alone of a call that meets an infinite end between 9 and 10 (`by_rows` of specs/Calls has the rows)
 unfoldable pub finite_box_refusal : List Interval → ℕ
 finite_box_refusal w = refused (not (all_ordered w)) 9 or_else refused (all_finite w && not (all_near w)) 10
 

@@ -1,7 +1,7 @@
 -- WHETHER A SUM IS EXACT, by two comparisons in doubles: v = x + y rounded, and then v - x == y and v - y == x, both differences rounded. They
 -- answer the question for all doubles; the infinities and NaNs by computation. Let the finer of two finite operands be the one that is a whole
 -- number below 2 ^ 53 of the smaller power 2 ^ j. Both operands, v and its difference from the other one are multiples of 2 ^ j, and a multiple
--- that rounds to a number below 2 ^ 53 of them is that number (`mult-exact`): so the comparison with the finer operand is true of no inexact sum.
+-- that rounds to a number below 2 ^ 53 of them is that number (`mult_exact`): so the comparison with the finer operand is true of no inexact sum.
 -- Assumes nothing.
 use Rattle.std.proofs.Common.{◌≡◌, ℕ, zero, suc, ◌+◌, ◌/◌, ◌%◌, ◌^◌, ◌<◌, ◌≤◌, Bool, true, false, cond, not, ◌&&◌, T, leb, [], ◌∷◌, ℤ, pos, ◌+ℤ◌, ◌*ℤ◌, sym, refl, ap, ◌∙◌, subst, inl, inr, le_of_lt, lt_irrefl, mul-pos, arith, lt→ltb, leb→le, pow_pos, shl_lt}
 use lib.Dec.{nleb→lt}

@@ -1,6 +1,6 @@
 -- "EXACT SUMS STAY NARROW": what is made of narrow sums lies in what is made of wide ones. Each operation keeps the order of its operands: where
 -- they lie in others, its result, in either arithmetic, lies in the wide result of those. Sizes go along as they do in `In`, so that no end is
--- infinite; `sum-narrow` and `difference-narrow` ask for finite ends alone, and there a result may overflow. Assumes nothing.
+-- infinite; `sum_narrow` and `difference_narrow` ask for finite ends alone, and there a result may overflow. Assumes nothing.
 use Rattle.std.proofs.Common.{ℕ, suc, ◌≤◌, max, Bool, true, false, not, T, leb, sym, subst, inl, inr, leb→le}
 use native.Mathlib.Nat.{le-max_left, le-max_right}
 use lib.Ieee.{Float, binary64, add, sub, neg, le, fits, is_nan}

@@ -1,6 +1,6 @@
 -- The doubles in order. Each finite double has a rank, its place counted from zero, upward above zero and downward below; both zeros have
--- the rank 0. Values grow with the rank, and `nextUp` goes to the next rank: so it is "the next double above", and where there is none, the
--- infinity. `nextDown` is the same of the opposite doubles. Assumes nothing.
+-- the rank 0. Values grow with the rank, and `next_up` goes to the next rank: so it is "the next double above", and where there is none, the
+-- infinity. `next_down` is the same of the opposite doubles. Assumes nothing.
 use Rattle.std.proofs.Common.{◌≡◌, ℕ, zero, suc, ◌+◌, ◌-◌, ◌<◌, Bool, true, false, not, T, eqb, ltb, ℤ, pos, negsuc, neg_ℤ, ◌≤ℤ◌, ◌<ℤ◌, sym, refl, ap, ◌∙◌, subst, inl, inr, le_of_lt, zero-lt-suc, add-one, arith, lit<, ltb→lt, lt→ltb, pow_pos}
 use lib.IntN.{suc_ℤ}
 use lib.Signed.{lt_z_yes, ≤ℤ_refl}

@@ -71,7 +71,7 @@ step_up Narrow e v = cond e v (next_up v)
 abbrev pub stepped : Arithmetic → Float → Bool → Float → Bool → Interval
 stepped ar low c high e = record { lo = step_down ar c low; hi = step_up ar e high }
 
--- ---- "Sum, difference, product, quotient": a sum's and a difference's two candidates are in order where the intervals are (`sum-in-order`)
+-- ---- "Sum, difference, product, quotient": a sum's and a difference's two candidates are in order where the intervals are (`sum_in_order`)
 unfoldable pub sum : Arithmetic → Interval → Interval → Interval
 sum ar x y =
     stepped ar (add binary64 x.lo y.lo) (exact_sum x.lo y.lo)

@@ -1,5 +1,5 @@
--- "The next double above" and "the next double below": IEEE 754's next_up and next_down on binary64, by the bit pattern.
--- proofs/Rank.antt shows that they are what the words say: `next-above`, `next-above-greatest`, `next-below`. Definitions only; assumes nothing.
+-- "The next double above" and "the next double below": IEEE 754's nextUp and nextDown on binary64, by the bit pattern.
+-- proofs/Rank.antt shows that they are what the words say: `next_above`, `next_above_greatest`, `next_below`. Definitions only; assumes nothing.
 use Rattle.std.specs.Prelude.{ℕ, ◌+◌, ◌-◌, cond, ◌==◌, from_bits, is_nan, nat_lt, to_bits, Float}
 use Rattle.std.specs.Float.{binary64}
 use Rattle.std.specs.Float.Ieee.{neg}
@@ -17,12 +17,12 @@ up_from n x =
     (cond (n == 0x8000_0000_0000_0000) (b64 1)
     (cond (nat_lt n 0x8000_0000_0000_0000) (b64 (n + 1)) (b64 (n - 1)))))
 
--- "the next double above" (`next-above`); above the greatest double stands the infinity (`next-above-greatest`), and a NaN stays
+-- "the next double above" (`next_above`); above the greatest double stands the infinity (`next_above_greatest`), and a NaN stays
 unfoldable pub next_up : Float → Float
 unfolding up_from
 next_up x = cond (is_nan x) x (up_from (to_bits binary64 x) x)
 
--- "the next double below" (`next-below`)
+-- "the next double below" (`next_below`)
 unfoldable pub next_down : Float → Float
 unfolding next_up
 next_down x = neg (next_up (neg x))
