@@ -1,5 +1,5 @@
 //! The fixed list of the original's answers, and of document 02's, that the program `replay` reads, as bytes.
-//! crates/replay/src/calls.rt says how.
+//! crates/replay/src/public_calls.rt says how.
 
 use crate::chance::Chance;
 use crate::entries::*;
