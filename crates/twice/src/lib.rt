@@ -13,8 +13,7 @@ use capi::lengths::walk_lent;
 use capi::reading::{describe, rule_of, whole_point};
 
 // As `gyroid_walk`.
-#[unsafe(no_mangle)]
-pub extern "C" fn gyroid_walk_twice(
+pub fn gyroid_walk_twice(
     description: &[i64],
     bounds: &[i64],
     depth: i64,
