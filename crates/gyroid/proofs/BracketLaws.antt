@@ -6,7 +6,7 @@ use Prim.Native.Nat.{ℕ, ◌<◌}
 use lib.Dec.{lit<, lit≤}
 use lib.IntN.{ℤ, pos}
 use lib.Signed.{◌<ℤ◌}
-use lib.Ieee.{of_bits}
+use lib.Ieee.{Float, of_bits}
 use Rattle.exact.specs.Fraction.{Fraction, ratio, zero_f, ◌+F◌, ◌*F◌, ◌/F◌, ◌≤F◌, ◌≈F◌, AbsF}
 use Rattle.exact.proofs.Ring.{lit, ◌⊕◌, ◌⊗◌}
 use Rattle.exact.proofs.FractionRing.{ring_f}
@@ -14,9 +14,8 @@ use Rattle.exact.proofs.Fraction.{≤F_trans, ≈F_le, ≈F_ge, ≈F_sym, ≈F_t
 use Rattle.exact.proofs.Fraction.{over_is, over_mono, over_cong, over_zero, over_mul}
 use Rattle.exact.proofs.FractionSize.{abs_add, abs_mul, abs_wider, square_nonneg}
 use Rattle.interval.specs.declared.Interval.{Interval}
-use Rattle.interval.specs.Step.{b64}
 use Rattle.interval.specs.Interval.{Arithmetic, point}
-use Rattle.interval.specs.Encloses.{value}
+use Rattle.interval.specs.Encloses.{value, Small}
 use Rattle.interval.proofs.Membership.{In, equal_in, wider, point_encloses}
 use Rattle.interval.proofs.Encloses.{add_encloses, mul_encloses, square_encloses}
 use Rattle.grade.specs.Grade.{Point}
@@ -72,9 +71,8 @@ network_bracket = record {
 abbrev half : Fraction
 half = ratio (pos 1) 2 (lit< tt)
 
-half_in : In 0 half (point (b64 0x3fe0_0000_0000_0000))
-unfolding of_bits
-half_in = equal_in (record { eq = refl }) (point_encloses (b64 0x3fe0_0000_0000_0000) (lit≤ tt))
+half_in : (x : Float) → Small 0 x → value x ≈F half → In 0 half (point x)
+half_in x s e = equal_in e (point_encloses x s)
 
 primitive_scaled : (k x y z : Fraction) → k *F k *F (squares x y z /F 2) ≈F squares (k *F x) (k *F y) (k *F z) /F 2
 primitive_scaled k x y z = ≈F_trans (comm_f (k *F k) (squares x y z /F 2)) (≈F_trans (≈F_sym (over_mul (squares x y z) (k *F k) (lit< tt)))
@@ -103,13 +101,14 @@ pub record TermHolds (q : Interval) (e : Fraction) : Type 0 where
 module _ (ar : Arithmetic) where
   -- what a bracket's interval holds
   bracket_encloses : (f : Surface) {x y z : Fraction} {X Y Z : Interval} → In 12 x X → In 12 y Y → In 12 z Z → In 35 (bracket_of f x y z) (bracket_at ar f X Y Z)
-  unfolding bracket_at
+  unfolding bracket_at of_bits
   bracket_encloses Surface.Network x y z =
       add_encloses ar tt (add_encloses ar tt (add_encloses ar tt (add_encloses ar tt (add_encloses ar tt (square_encloses tt x) (square_encloses tt y))
       (square_encloses tt z)) (mul_encloses tt x y)) (mul_encloses tt y z)) (mul_encloses tt z x)
   bracket_encloses Surface.Primitive {x} {y} {z} X Y Z =
       equal_in (≈F_sym (over_is (squares x y z) (lit< tt)))
-      (wider 35 tt (mul_encloses tt (add_encloses ar tt (add_encloses ar tt (square_encloses tt X) (square_encloses tt Y)) (square_encloses tt Z)) half_in))
+      (wider 35 tt (mul_encloses tt (add_encloses ar tt (add_encloses ar tt (square_encloses tt X) (square_encloses tt Y)) (square_encloses tt Z))
+      (half_in _ (lit≤ tt) (record { eq = refl }))))
 
   module _
       (d : Description) (above : pos 0 <ℤ d.period) (lo hi : List ℤ) (low-in : Within3 1048576 lo) (high-in : Within3 1048576 hi)
