@@ -5,7 +5,7 @@ use mathlib.Core.List.{List, [], ◌∷◌}
 use Prim.Native.Nat.{ℕ}
 use lib.IntN.{ℤ, pos, negsuc}
 use Rattle.grade.specs.Grade as grade
-use Rattle.grade.specs.Exact.{linear_of, constant_def, compiled}
+use Rattle.grade.specs.Exact.{linear_of, compiled}
 use Rattle.grade.specs.Certified.{certification}
 use Rattle.grade.specs.Said.{found}
 use Rattle.gyroid.specs.declared.Description.{Description}
@@ -49,7 +49,7 @@ pub record Kinds : Type 0 where
   pub primitive_over : Saturates (pos 2) (negsuc 3070) []
 
 pub kinds : Kinds
-unfolding refusal in_limits frame_in_limits part_frame grade.in_limits linear_of constant_def compiled certification saturated_call
+unfolding refusal in_limits frame_in_limits part_frame grade.in_limits linear_of compiled certification saturated_call
 kinds = record {
   below = refl;
   network = refl;

@@ -8,4 +8,4 @@ pub mod KindExamples
 -- a box of whole ticks is not refused by 9 or 10, and what the calls answer over it
 pub mod TickLaws
 -- what the proofs of the code cite
-mod CallLaws
+pub mod CallLaws

@@ -1,7 +1,7 @@
 -- A BOX OF WHOLE TICKS IN DOUBLES PASSES 9 AND 10: within document 01's limits, with no low above its high, its ends are ordered and far below
 -- 2^40. So what the public calls answer over it, of an accepted description, is what the layer below says of the box of those ticks: neither
 -- number refuses it, and a zero among its ends may have either sign. Assumes nothing.
-use mathlib.Core.Path.{◌≡◌, refl, sym, ap, ◌∙◌}
+use mathlib.Core.Path.{◌≡◌, refl, ap, ◌∙◌}
 use mathlib.Core.Bool.{Bool, true, false, not, ◌&&◌, ◌||◌}
 use mathlib.Core.List.{List, [], ◌∷◌}
 use Prim.Native.Nat.{ℕ, ◌<◌}
@@ -11,6 +11,7 @@ use lib.Signed.{◌≤ℤ◌, lt_z, lt_z_no}
 use lib.Ieee.{Float, neg, le, of_bits}
 use lib.Ieee.Bits.{is_true}
 use lib.Ieee.Fits.{and_i}
+use Rattle.std.specs.Prelude.{Option}
 use Rattle.exact.specs.Within.{Within}
 use Rattle.exact.proofs.Fraction.{≤F_trans, ≈F_le, ≈F_ge, neg_mono_f, over_mono, whole_le}
 use Rattle.interval.specs.declared.Interval.{Interval}
@@ -27,7 +28,6 @@ use Rattle.grade.proofs.Axes.{three}
 use Rattle.grade.proofs.AxisLaws.{within_at}
 use Rattle.grade.proofs.EntryLaws.{not_either, ticks_within}
 use Rattle.gyroid.specs.declared.Description.{Description}
-use Rattle.gyroid.specs.declared.Residual.{Residual}
 use Rattle.gyroid.specs.declared.State.{State}
 use Rattle.gyroid.specs.Refusals.{ends_within, all_finite}
 use Rattle.gyroid.specs.Fits.{Accepted}
@@ -36,7 +36,7 @@ use Rattle.gyroid.specs.Admitted.{tick_box}
 use Rattle.grade.specs.Holds.{AtTick, OfTicks}
 use Rattle.gyroid.specs.InUse.{leaf, residual, box_state}
 use Rattle.gyroid.proofs.AlikeLaws.{tick_small, residual_same, state_same}
-use Rattle.calls.specs.Refusals.{farthest, all_ordered, all_near, box_refusal, finite_box_refusal}
+use Rattle.calls.specs.Refusals.{farthest, near, all_ordered, all_near, box_refusal, finite_box_refusal}
 use Rattle.calls.specs.Calls.{residual_values, residual_call, box_state_call}
 use Rattle.calls.proofs.CallLaws.{residual_rows, state_rows}
 
@@ -95,7 +95,7 @@ module _
   all_ordered_lem = is_true (all_ordered w) (every_i ordered end_order)
 
   near_all : all_near w ≡ true
-  unfolding all_near
+  unfolding all_near near
   near_all = is_true (all_near w) (every_i (ends_within farthest) end_near)
 
   -- neither 9 nor 10
@@ -111,10 +111,10 @@ module _
   module _ (d : Description) (a : Accepted d) where
     pub residual_ticks : residual_call d w ≡ found (residual_values (residual (leaf d) (tick_box lo hi)))
     residual_ticks =
-        sym (residual_rows d w) ∙ answers (residual_values (residual (leaf d) w)) a.none ticks_finite_box
-        ∙ ap (λ (r : Residual). found (residual_values r)) (residual_same in_use d a lo hi low-ticks high-ticks w h)
+        residual_rows d w ∙ answers (residual_values (residual (leaf d) w)) a.none ticks_finite_box
+        ∙ ap (λ (r : Option Interval). found (residual_values r)) (residual_same in_use d a lo hi low-ticks high-ticks w h)
 
     pub box_state_ticks : box_state_call d w ≡ found (state_number (box_state (leaf d) (tick_box lo hi)) ∷ [])
     box_state_ticks =
-        sym (state_rows d w) ∙ answers (state_number (box_state (leaf d) w) ∷ []) a.none ticks_finite_box
+        state_rows d w ∙ answers (state_number (box_state (leaf d) w) ∷ []) a.none ticks_finite_box
         ∙ ap (λ (s : State). found (state_number s ∷ [])) (state_same in_use d a lo hi low-ticks high-ticks w h)

@@ -1,14 +1,14 @@
 -- `derivatives`: the gradient of g − c and the Hessian of g over a box on which the level is one piece, in the original's order of operations.
 -- Of the primitive surface document 02 says: "The network's spreads and curvature are wide enough and stay in use for it." Definitions only;
 -- assumes nothing.
-use Rattle.std.specs.Prelude.{true, false, List, [], ◌∷◌, ℕ, Float}
+use Rattle.std.specs.Prelude.{List, [], ◌∷◌, Float, Option, Some, None}
 use Rattle.std.specs.Float.{binary64}
 use Rattle.std.specs.Float.Ieee.{mul}
 use Rattle.interval.specs.declared.Interval.{Interval}
 use Rattle.interval.specs.Step.{b64}
 use Rattle.interval.specs.Interval.{point, product}
 use Rattle.grade.specs.declared.Piece.{Piece}
-use Rattle.grade.specs.Intervals.{box_at, zero, zeros, piece_gradient}
+use Rattle.grade.specs.Intervals.{box_at, zero, piece_gradient}
 use Rattle.grade.specs.InUse.{sum, difference}
 use Rattle.gyroid.specs.declared.Surface.{Surface}
 use Rattle.gyroid.specs.declared.Gyroid.{Gyroid}
@@ -58,30 +58,25 @@ off_diagonal a b k2 s = opposite (product a b) k2 s
 
 -- row by row; of the primitive surface "−k² cos X, −k² cos Y, −k² cos Z on the diagonal and zeros off it",
 -- which in floats is "0 − cx × wave squared, with plain zeros off the diagonal before the spread"
-unfoldable pub hessian_at : Surface → Interval → Interval → Interval → Interval → Interval → Interval → Interval → Float → List Interval
-hessian_at Surface.Network sx cx sy cy sz cz k2 s =
-    on_diagonal sx cy sz cx k2 s ∷ off_diagonal cx sy k2 s ∷ off_diagonal sx cz k2 s
-    ∷ off_diagonal cx sy k2 s ∷ on_diagonal sy cz sx cy k2 s ∷ off_diagonal cy sz k2 s
-    ∷ off_diagonal sx cz k2 s ∷ off_diagonal cy sz k2 s ∷ on_diagonal sz cx sy cz k2 s
+unfoldable pub hessian_at : Surface → Waves → Interval → Float → List Interval
+hessian_at Surface.Network w k2 s =
+    on_diagonal w.x.sine w.y.cosine w.z.sine w.x.cosine k2 s ∷ off_diagonal w.x.cosine w.y.sine k2 s ∷ off_diagonal w.x.sine w.z.cosine k2 s
+    ∷ off_diagonal w.x.cosine w.y.sine k2 s ∷ on_diagonal w.y.sine w.z.cosine w.x.sine w.y.cosine k2 s ∷ off_diagonal w.y.cosine w.z.sine k2 s
+    ∷ off_diagonal w.x.sine w.z.cosine k2 s ∷ off_diagonal w.y.cosine w.z.sine k2 s ∷ on_diagonal w.z.sine w.x.cosine w.y.sine w.z.cosine k2 s
     ∷ []
-hessian_at Surface.Primitive sx cx sy cy sz cz k2 s =
-    opposite cx k2 s ∷ widened zero s ∷ widened zero s
-    ∷ widened zero s ∷ opposite cy k2 s ∷ widened zero s
-    ∷ widened zero s ∷ widened zero s ∷ opposite cz k2 s
+hessian_at Surface.Primitive w k2 s =
+    opposite w.x.cosine k2 s ∷ widened zero s ∷ widened zero s
+    ∷ widened zero s ∷ opposite w.y.cosine k2 s ∷ widened zero s
+    ∷ widened zero s ∷ widened zero s ∷ opposite w.z.cosine k2 s
     ∷ []
 
--- ---- where nothing is found, all else is zero
-abbrev pub no_derivatives : ℕ → Derivatives
-no_derivatives n = record { refusal = n; found = false; gradient = zeros; hessian = zero ∷ zero ∷ zero ∷ zero ∷ zero ∷ zero ∷ zero ∷ zero ∷ zero ∷ [] }
+-- ---- nothing where no waves are found
+abbrev pub derivatives_of : Option Waves → Gyroid → List Interval → List Interval → Option Derivatives
+derivatives_of None g slope r = None
+derivatives_of (Some w) g slope r = Some (record {
+  gradient = wide_gradient (gradient_at g.surface w g.wave) slope g.wave_squared r;
+  hessian = hessian_at g.surface w g.wave_squared (hessian_spread g.wave g.wave_squared r);
+})
 
-abbrev pub derivatives_of : Waves → Gyroid → List Interval → List Interval → Derivatives
-derivatives_of Waves.None g slope r = no_derivatives 0
-derivatives_of (Waves.Found sx cx sy cy sz cz) g slope r = record {
-  refusal = 0;
-  found = true;
-  gradient = wide_gradient (gradient_at g.surface sx cx sy cy sz cz g.wave) slope g.wave_squared r;
-  hessian = hessian_at g.surface sx cx sy cy sz cz g.wave_squared (hessian_spread g.wave g.wave_squared r);
-}
-
-unfoldable pub derivatives : Gyroid → List Interval → Piece → Derivatives
+unfoldable pub derivatives : Gyroid → List Interval → Piece → Option Derivatives
 derivatives g w piece = derivatives_of (waves g (centre w)) g (piece_gradient g.intervals piece) (radii w)

@@ -1,6 +1,6 @@
 -- `curvature` and `facet_residual`, in the original's order of operations. "`facet_residual` rounds lo − curved and hi + curved to nearest, so
 -- it promises no enclosure". Definitions only; assumes nothing.
-use Rattle.std.specs.Prelude.{cond, not, List, [], ◌∷◌, Float}
+use Rattle.std.specs.Prelude.{List, [], ◌∷◌, Float, Option, option_map}
 use Rattle.std.specs.Float.{binary64}
 use Rattle.std.specs.Float.Ieee.{add, sub}
 use Rattle.interval.specs.declared.Interval.{Interval}
@@ -10,9 +10,6 @@ use Rattle.grade.specs.Intervals.{box_at}
 use Rattle.grade.specs.InUse.{sum}
 use Rattle.gyroid.specs.declared.Gyroid.{Gyroid}
 use Rattle.gyroid.specs.declared.Jet.{Jet}
-use Rattle.gyroid.specs.declared.Residual.{Residual}
-use Rattle.gyroid.specs.declared.Residual.TheVariants.{None}
-use Rattle.gyroid.specs.Residual.{held}
 use Rattle.gyroid.specs.InUse.{minus, affine_jet}
 use Rattle.calls.specs.declared.Corners.{Corners}
 use Rattle.calls.specs.Refusals.{corner}
@@ -54,11 +51,8 @@ corners gradient c m = with_corner (with_corner (with_corner no_corners gradient
 unfoldable pub facet_curved : Interval → Float → Float
 facet_curved k reach = (product (product (point (b64 0x3fe0_0000_0000_0000)) k) (point reach)).hi
 
-unfoldable pub facet_of : Interval → Jet → Corners → Residual
-facet_of k j s = cond (not j.found) None (held (sum j.value (record { lo = sub binary64 s.lo (facet_curved k s.reach); hi = add binary64 s.hi (facet_curved k s.reach) })))
+unfoldable pub facet_about : Interval → Jet → Corners → Interval
+facet_about k j s = sum j.value (record { lo = sub binary64 s.lo (facet_curved k s.reach); hi = add binary64 s.hi (facet_curved k s.reach) })
 
-unfoldable pub facet_residual : Gyroid → List (List Interval) → Residual
-facet_residual g c =
-    let m = centroid c in
-    let j = affine_jet g m in
-    facet_of (curvature g) j (corners j.gradient c m)
+unfoldable pub facet_residual : Gyroid → List (List Interval) → Option Interval
+facet_residual g c = option_map (λ j. facet_about (curvature g) j (corners j.gradient c (centroid c))) (affine_jet g (centroid c))

@@ -20,8 +20,11 @@ unfoldable pub all_ordered : List Interval → Bool
 all_ordered w = every ordered w
 
 -- what is not near: "10: an end or point beyond 2^40 in size"
+unfoldable pub near : Interval → Bool
+near b = ends_within farthest b
+
 unfoldable pub all_near : List Interval → Bool
-all_near w = every (ends_within farthest) w
+all_near w = every near w
 
 unfoldable pub box_refusal : List Interval → ℕ
 box_refusal w = refused (not (all_ordered w)) 9 or_else refused (not (all_near w)) 10

@@ -5,30 +5,27 @@ ghost use Rattle.calls.specs.Fast.{fast_horner, fast_reduced, fast_circle, fast_
 ghost use Rattle.calls.specs.Fits.{FastFits, Near};
 
 use crate::FastCircle;
-use grade::LevelKind;
+use grade::GradeDef;
 use gyroid::{Gyroid, Surface};
 use interval::Interval;
 use interval::floor::{modulo_four, quarter_number};
 use interval::nearest::whole;
 
+#[tactic(auto, unfolding(crate::specs::Fast::fast_horner))]
 fn fast_horner(c: [f64; 9], x: f64) -> f64
-    ensures { result ≡ fast_horner c x 9 }
+    ensures { result ≡ fast_horner c x }
 {
-    let mut s = 0.0;
-    let mut i: usize = 9;
-    while i > 0 {
-        i -= 1;
-        s = s * x + c[i];
-    }
-    s
+    c.iter().rev().fold(0.0, |s, k| s * x + *k)
 }
 
+#[tactic(auto, unfolding(crate::specs::Fast::fast_reduced))]
 fn fast_reduced(t: f64, q: i64) -> f64
     ensures { result ≡ fast_reduced t q }
 {
-    (t - whole(q) * 0.25) * 6.283185307179586
+    (t - whole(q) * 0.25) * Interval::TWO_PI.lo
 }
 
+#[tactic(auto, unfolding(crate::specs::Fast::fast_circle))]
 fn fast_circle(u: f64) -> FastCircle
     ensures { result ≡ fast_circle u }
 {
@@ -39,6 +36,8 @@ fn fast_circle(u: f64) -> FastCircle
     }
 }
 
+// By "q mod 4", a number as in the definition: `modulo_four` gives none but 0 to 3.
+#[tactic(auto, unfolding(crate::specs::Fast::fast_turned))]
 fn fast_turned(m: u64, c: FastCircle) -> FastCircle
     ensures { result ≡ fast_turned m c }
 {
@@ -59,6 +58,7 @@ fn fast_turned(m: u64, c: FastCircle) -> FastCircle
     }
 }
 
+#[tactic(auto, unfolding(crate::specs::Fast::fast_turn))]
 fn fast_turn(x: f64, turns: f64) -> FastCircle
     requires { Small 40 x × Small 10 turns }
     ensures { result ≡ fast_turn x turns }
@@ -69,6 +69,7 @@ fn fast_turn(x: f64, turns: f64) -> FastCircle
     fast_turned(modulo_four(q), c)
 }
 
+#[tactic(auto, unfolding(crate::specs::Fast::fast_value))]
 fn fast_value(surface: Surface, x: FastCircle, y: FastCircle, z: FastCircle) -> f64
     ensures { result ≡ fast_value surface x y z }
 {
@@ -78,20 +79,18 @@ fn fast_value(surface: Surface, x: FastCircle, y: FastCircle, z: FastCircle) -> 
     }
 }
 
-pub fn fast_distance(leaf: Gyroid, p: [f64; 3]) -> f64
-    requires { FastFits leaf × Near p }
-    ensures { result ≡ fast_distance leaf p }
+#[tactic(auto, unfolding(crate::specs::Fast::fast_distance))]
+pub fn fast_distance(leaf: &Gyroid, p: [f64; 3]) -> f64
+    requires { FastFits leaf.now × Near p }
+    ensures { result ≡ fast_distance leaf.now p }
 {
-    let surface = leaf.surface;
-    let grade = leaf.grade;
-    let kind = grade.kind;
     let k = leaf.fast_turns;
     let x = fast_turn(p[0], k);
     let y = fast_turn(p[1], k);
     let z = fast_turn(p[2], k);
-    let value = fast_value(surface, x, y, z);
-    match kind {
-        LevelKind::Constant => (value - leaf.fast_level) / leaf.fast_lipschitz,
-        LevelKind::Linear => (value - grade.fast(p)) / leaf.fast_lipschitz,
+    let value = fast_value(leaf.surface, x, y, z);
+    match &leaf.grade {
+        GradeDef::Constant(_) => (value - leaf.fast_level) / leaf.fast_lipschitz,
+        GradeDef::Linear(_) => (value - leaf.grade.fast(p)) / leaf.fast_lipschitz,
     }
 }

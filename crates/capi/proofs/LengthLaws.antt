@@ -1,8 +1,7 @@
 -- What lengths that refuse nothing are, and the tie rule of a walk beside them. Assumes nothing.
-use mathlib.Core.Path.{◌≡◌, refl, sym, ◌∙◌, subst⁻¹}
+use mathlib.Core.Path.{◌≡◌, refl, sym, ◌∙◌}
 use mathlib.Core.Bool.{Bool, true, false, not}
 use Prim.Native.Nat.{ℕ, ◌≤◌}
-use native.Mathlib.Nat.{le_refl}
 use borrow.Author.Tests.{ltb-false, eq-eqb, le-ltb}
 use lib.Dec.{T, eqb, ltb, eqb→eq}
 use Rattle.limits.specs.Refusals.{refused, ◌or_else◌}
@@ -13,6 +12,8 @@ not_false : (b : Bool) → T (not b) → b ≡ false
 not_false true t = absurd t
 not_false false t = refl
 
+-- `Sized` and `sized`, and `walk_sized` below, are the law of lengths that refuse nothing: docs/landings name it, and the code's own clause
+-- `right` says the same of an answer
 pub record Sized (d g w r n : ℕ) : Type 0 where
   pub entries : d ≡ 18
   pub argument : g ≡ w
@@ -42,11 +43,3 @@ walk_sized d b rule e z = sized d b 6 0 0 refl (neither (lengths d b 6 0 0) (ref
 pub walk_right : {d b rule : ℕ} → Sized d b 6 0 0 → rule ≤ 1 → walk_lent d b rule ≡ 0
 unfolding walk_lent
 walk_right {rule} s h = rw (right s, le-ltb 1 rule h) refl
-
--- an argument of its length has that many numbers
-pub holds : {m n : ℕ} → m ≡ n → n ≤ m
-holds {n} e = subst⁻¹ (λ m. n ≤ m) e (le_refl n)
-
--- two refusals, the first of them the lengths'
-pub either : {r a b x y : ℕ} → r ≡ (a or_else b) → a ≡ x → b ≡ y → r ≡ (x or_else y)
-either e f g = e ∙ (λ k. f k or_else g k)

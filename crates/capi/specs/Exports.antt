@@ -1,20 +1,16 @@
 -- What each exported call says of the slices lent to it, `room` being how many numbers the last one holds. Definitions only; assumes nothing.
-use Rattle.std.specs.Prelude.{◌≡◌, Bool, cond, List, [], ◌∷◌, map, ℕ, ◌+◌, ◌≤◌, eqb, ltb, ℤ, pos, nat_abs, Float, length}
-use Rattle.interval.specs.declared.Interval.{Interval}
+use Rattle.std.specs.Prelude.{◌≡◌, Bool, cond, List, map, ℕ, ◌≤◌, eqb, ℤ, pos, nat_abs, Float, length}
 use Rattle.grade.specs.declared.Piece.{Piece}
 use Rattle.grade.specs.declared.Piece.TheVariants.{Start, Ramp, End}
-use Rattle.grade.specs.Intervals.{box_at}
-use Rattle.limits.specs.Refusals.{refused, ◌or_else◌}
+use Rattle.limits.specs.Refusals.{◌or_else◌}
 use Rattle.grade.specs.Calls.{range_call}
-use Rattle.grade.specs.Said.{Said, found, refusing, answered}
-use Rattle.gyroid.specs.declared.Jet.{Jet}
-use Rattle.calls.specs.declared.Derivatives.{Derivatives}
+use Rattle.grade.specs.Said.{Said, found, refusing}
 use Rattle.calls.specs.Calls as calls
 use Rattle.tree.specs.Box.{box_from}
 use Rattle.walk.specs.declared.TieRule.{TieRule}
 use Rattle.walk.specs.declared.TieRule.TheVariants.{GradeAxis, LowestAxis}
 use Rattle.walk.specs.InUse.{walk_number, walk_table, Supposed, Demand}
-use Rattle.capi.specs.Lent.{level, description, whole_point, point, box, triangle, lengths, walk_lent, unless}
+use Rattle.capi.specs.Lent.{level, description, whole_point, point, box, triangle, lengths, piece_lent, walk_lent, unless}
 
 -- ---- answers as rows of numbers
 abbrev pub each : {A B : Type 0} → (A → B) → Said A → Said B
@@ -24,26 +20,6 @@ each f (found vs) = found (map f vs)
 -- true is 1 and false is 0
 abbrev pub bit : Bool → ℤ
 bit b = cond b (pos 1) (pos 0)
-
-abbrev pub row : Interval → List Float → List Float
-row v xs = v.lo ∷ v.hi ∷ xs
-
-abbrev pub three_of : List Interval → ℕ → List Float → List Float
-three_of vs i xs = row (box_at vs i) (row (box_at vs (i + 1)) (row (box_at vs (i + 2)) xs))
-
--- the value, then the gradient
-abbrev pub jet_values : Jet → List Float
-jet_values j = row j.value (three_of j.gradient 0 [])
-
-abbrev pub jet_said : Jet → Said Float
-jet_said j = answered j.refusal (cond j.found (jet_values j) [])
-
--- the gradient, then the Hessian row by row
-abbrev pub derivatives_values : Derivatives → List Float
-derivatives_values d = three_of d.gradient 0 (three_of d.hessian 0 (three_of d.hessian 3 (three_of d.hessian 6 [])))
-
-abbrev pub derivatives_said : Derivatives → Said Float
-derivatives_said d = answered d.refusal (cond d.found (derivatives_values d) [])
 
 -- ---- the calls on a description alone
 unfoldable pub graded : List ℤ → ℕ → Said ℤ
@@ -72,10 +48,10 @@ level_piece ds bounds room =
 
 -- ---- over a box of doubles: the low end and the high end of each axis
 unfoldable pub jet : List ℤ → List Float → ℕ → Said Float
-jet ds world room = unless (lengths (length ds) (length world) 6 room 8) (jet_said (calls.jet_call (description ds) (box world 0)))
+jet ds world room = unless (lengths (length ds) (length world) 6 room 8) (calls.jet_call (description ds) (box world 0))
 
 unfoldable pub affine_jet : List ℤ → List Float → ℕ → Said Float
-affine_jet ds world room = unless (lengths (length ds) (length world) 6 room 8) (jet_said (calls.affine_jet_call (description ds) (box world 0)))
+affine_jet ds world room = unless (lengths (length ds) (length world) 6 room 8) (calls.affine_jet_call (description ds) (box world 0))
 
 -- 0 Start, 1 Ramp, 2 End, the original's order; another number is refused 1: "entry outside its limits or kinds"
 abbrev pub piece : ℕ → Piece
@@ -83,8 +59,8 @@ piece n = cond (eqb n 0) Start (cond (eqb n 1) Ramp End)
 
 unfoldable pub derivatives : List ℤ → List Float → ℕ → ℕ → Said Float
 derivatives ds world number room =
-    unless (lengths (length ds) (length world) 6 room 24 or_else refused (ltb 2 number) 1)
-    (derivatives_said (calls.derivatives_call (description ds) (box world 0) (piece number)))
+    unless (piece_lent (length ds) (length world) room number)
+    (calls.derivatives_call (description ds) (box world 0) (piece number))
 
 unfoldable pub residual : List ℤ → List Float → ℕ → Said Float
 residual ds world room = unless (lengths (length ds) (length world) 6 room 2) (calls.residual_call (description ds) (box world 0))

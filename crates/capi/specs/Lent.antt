@@ -1,13 +1,14 @@
 -- What an exported call reads from the slices lent to it, what it returns, and what it leaves in them. Definitions only; assumes nothing.
-use Rattle.std.specs.Prelude.{cond, not, List, [], ◌∷◌, ℕ, suc, ◌+◌, eqb, ltb, ℤ, Float, get_or, set}
+use Rattle.std.specs.Prelude.{cond, not, List, [], ◌∷◌, ℕ, suc, ◌+◌, eqb, ltb, ℤ, Float, get_or, set, Result, Ok, Err}
 use Rattle.std.specs.Float.{nan}
 use Rattle.interval.specs.declared.Interval.{Interval}
 use Rattle.grade.specs.declared.Grade.{Grade}
 use Rattle.limits.specs.Ticks.{at}
-use Rattle.limits.specs.Refusals.{refused, ◌or_else◌}
+use Rattle.limits.specs.Refusals.{refused, ◌or_else◌, number}
 use Rattle.grade.specs.Said.{Said, found, refusing}
 use Rattle.gyroid.specs.declared.Description.{Description}
 use Rattle.gyroid.specs.declared.Frame.{Frame}
+use Rattle.capi.specs.declared.lengths.Fault.{Fault}
 
 -- ---- what is read
 -- a point of whole numbers, from place i on
@@ -63,6 +64,10 @@ unfoldable pub lengths : ℕ → ℕ → ℕ → ℕ → ℕ → ℕ
 lengths description given wanted room needed =
     refused (not (eqb given wanted)) 101 or_else refused (ltb room needed) 101 or_else refused (not (eqb description 18)) 1
 
+-- of `derivatives` with a box of six ends and 24 values; then 1: a piece's number above 2
+unfoldable pub piece_lent : ℕ → ℕ → ℕ → ℕ → ℕ
+piece_lent description world room piece = lengths description world 6 room 24 or_else refused (ltb 2 piece) 1
+
 -- of a walk with a box of six ends; then 1: a tie rule that is neither 0 nor 1
 unfoldable pub walk_lent : ℕ → ℕ → ℕ → ℕ
 walk_lent description bounds rule = lengths description bounds 6 0 0 or_else refused (ltb 1 rule) 1
@@ -72,6 +77,15 @@ abbrev pub unless : {A : Type 0} → ℕ → Said A → Said A
 unless n said = cond (eqb n 0) said (refusing n)
 
 -- ---- what is returned, and what is left
+-- the number of a fault, and of an answer, 0 where it is none
+abbrev pub fault : Fault → ℕ
+fault Fault.Length = 101
+fault (Fault.Refused why) = number why
+
+abbrev pub fault_of : {A : Type 0} → Result A Fault → ℕ
+fault_of (Ok a) = 0
+fault_of (Err f) = fault f
+
 -- 0 where there are values, 100 where nothing is found, and the number of a refusal
 abbrev pub status : {A : Type 0} → Said A → ℕ
 status (refusing n) = n

@@ -1,33 +1,34 @@
 // What an exported call reads from the slices lent to it, once their lengths are known.
-ghost use Rattle.std.specs.Prelude.{◌≡◌, ◌+◌, ◌≤◌, length};
+ghost use Rattle.std.specs.Prelude.{◌≡◌, ◌+◌, ◌≤◌, [], ◌∷◌, get_or, length};
 ghost use Rattle.capi.specs.Lent as lent;
-ghost use Rattle.capi.specs.Exports.{piece, tie_rule};
 
-use grade::{Grade, Piece};
+use grade::Grade;
 use gyroid::{Description, Frame};
 use interval::Interval;
-use walk::TieRule;
 
-pub fn whole_point(s: &[i64], at: usize) -> [i64; 3]
+// The three entries from place `at` on.
+pub fn three_at<T: Copy>(s: &[T], at: usize) -> [T; 3]
     requires { at + 3 ≤ length s.now }
-    ensures { result ≡ lent.whole_point s.now at }
+    ensures { (other : T) → result ≡ get_or s.now at other ∷ get_or s.now (at + 1) other ∷ get_or s.now (at + 2) other ∷ [] }
 {
     [s[at], s[at + 1], s[at + 2]]
 }
 
+#[tactic(auto, using(crate::proofs::NumberLaws::read_back), unfolding(crate::specs::Lent::level))]
 pub fn level_of(description: &[i64]) -> Grade
     requires { length description.now ≡ 18 }
     ensures { result ≡ lent.level description.now }
 {
     Grade {
         kind: description[2],
-        from: whole_point(description, 3),
-        to: whole_point(description, 6),
+        from: three_at(description, 3),
+        to: three_at(description, 6),
         start: description[9],
         end: description[10],
     }
 }
 
+#[tactic(auto, using(crate::proofs::NumberLaws::read_back), unfolding(crate::specs::Lent::frame))]
 fn frame_of(description: &[i64]) -> Frame
     requires { length description.now ≡ 18 }
     ensures { result ≡ lent.frame description.now }
@@ -37,10 +38,11 @@ fn frame_of(description: &[i64]) -> Frame
         x: description[12],
         y: description[13],
         z: description[14],
-        translation: whole_point(description, 15),
+        translation: three_at(description, 15),
     }
 }
 
+#[tactic(auto, using(crate::proofs::NumberLaws::read_back), unfolding(crate::specs::Lent::description))]
 pub fn describe(description: &[i64]) -> Description
     requires { length description.now ≡ 18 }
     ensures { result ≡ lent.description description.now }
@@ -51,13 +53,6 @@ pub fn describe(description: &[i64]) -> Description
         level: level_of(description),
         frame: frame_of(description),
     }
-}
-
-pub fn point_at(s: &[f64]) -> [f64; 3]
-    requires { length s.now ≡ 3 }
-    ensures { result ≡ lent.point s.now }
-{
-    [s[0], s[1], s[2]]
 }
 
 fn interval_at(s: &[f64], at: usize) -> Interval
@@ -86,27 +81,4 @@ pub fn corners_at(s: &[f64]) -> [[Interval; 3]; 3]
     ensures { result ≡ lent.triangle s.now }
 {
     [world_at(s, 0), world_at(s, 6), world_at(s, 12)]
-}
-
-// The original's order.
-pub fn piece_of(number: u32) -> Piece
-    ensures { result ≡ piece number }
-{
-    if number == 0 {
-        return Piece::Start;
-    }
-    if number == 1 {
-        return Piece::Ramp;
-    }
-    Piece::End
-}
-
-// 0 is the default.
-pub fn rule_of(number: u32) -> TieRule
-    ensures { result ≡ tie_rule number }
-{
-    if number == 0 {
-        return TieRule::GradeAxis;
-    }
-    TieRule::LowestAxis
 }

@@ -2,29 +2,9 @@
 // of what it reads is text::cells's contract. Where it could not write, it says so on standard error.
 #![tactic(auto)]
 
-ghost use Rattle.std.specs.Prelude.{◌≤◌, IfOk, length};
-
+use lists::read_full;
 use std::io;
-use std::io::{ErrorKind, Read, Write};
-
-// Reads until s is full or the text ends; how many bytes it put at the front of s.
-fn read_full<R: Read>(text: &mut R, s: &mut [u8]) -> io::Result<usize>
-    ensures { IfOk result (λ n. n ≤ length s.new) }
-{
-    let mut done = 0;
-    for _ in 0..u64::MAX {
-        if done >= s.len() {
-            break;
-        }
-        match text.read(&mut s[done..]) {
-            Ok(0) => break,
-            Ok(n) => done += n,
-            Err(e) if e.kind() == ErrorKind::Interrupted => {}
-            Err(e) => return Err(e),
-        }
-    }
-    Ok(done)
-}
+use std::io::Write;
 
 fn main(rt: HostRuntime) -> io::Result<()> {
     // A line has 153 bytes at most, so a text that fills this is none, whatever follows: `front_decides` in text's LengthLaws.

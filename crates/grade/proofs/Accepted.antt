@@ -2,21 +2,18 @@
 -- layer's functions ask. Assumes nothing.
 use mathlib.Core.Path.{◌≡◌, subst}
 use mathlib.Core.Bool.{Bool, true, false, not, ◌&&◌}
-use mathlib.Core.List.{List, [], ◌∷◌}
+use mathlib.Core.List.{List}
 use Prim.Native.Nat.{ℕ}
-use lib.Dec.{T, T_not, lit≤}
+use lib.Dec.{T, T_not}
 use lib.IntN.{ℤ, pos, ◌+ℤ◌, ◌-ℤ◌, ◌*ℤ◌}
-use lib.Signed.{le_z, lt_z_yes, ◌≤ℤ◌, ◌<ℤ◌, ≤ℤ_refl}
-use Rattle.exact.specs.Within.{Within}
+use lib.Signed.{le_z, ◌≤ℤ◌, ◌<ℤ◌, ≤ℤ_refl}
 use Rattle.exact.proofs.Choice.{choose}
-use Rattle.exact.proofs.Size.{within_zero}
 use Rattle.exact.proofs.IntegerOrder.{zarith, sum_parts, square_nonnegℤ, square_pos, sub_zero}
 use Rattle.grade.specs.declared.Grade.{Grade}
 use Rattle.grade.specs.declared.GradeDef.{GradeDef}
-use Rattle.grade.specs.declared.LevelKind.{LevelKind}
 use Rattle.limits.specs.Ticks.{at, ticks, above}
 use Rattle.grade.specs.Grade.{in_limits, eq_z, is_linear, minus, dot, length_sq}
-use Rattle.grade.specs.Exact.{linear_of, numbers, constant_def, compiled}
+use Rattle.grade.specs.Exact.{linear_of, numbers, compiled}
 use Rattle.limits.specs.Refusals.{refused, ◌or_else◌}
 use Rattle.grade.specs.Refusals.{same, is_distance, coincident, range_refusal}
 use Rattle.grade.specs.Fits.{Within3, InLimits, DefFits}
@@ -31,7 +28,6 @@ pub record Accepted (g : Grade) (lo hi : List ℤ) : Type 0 where
   pub low : Within3 1048576 lo
   pub high : Within3 1048576 hi
   pub order : T (not (above lo hi))
-  pub no_distance : T (not (is_distance g))
   pub apart : T (not (coincident g))
 
 pub accepted : (g : Grade) (lo hi : List ℤ) → range_refusal g lo hi ≡ 0 → Accepted g lo hi
@@ -39,10 +35,10 @@ unfolding range_refusal
 accepted g lo hi e =
     let (a, e1) = none_first (not (in_limits g && ticks lo && ticks hi)) 0 (refused (above lo hi) 6 or_else refused (is_distance g) 7 or_else refused (coincident g) 8) e in
     let (b, e2) = none_first (above lo hi) 5 (refused (is_distance g) 7 or_else refused (coincident g) 8) e1 in
-    let (c, e3) = none_first (is_distance g) 6 (refused (coincident g) 8) e2 in
+    let (_, e3) = none_first (is_distance g) 6 (refused (coincident g) 8) e2 in
     let (d, h) = both (in_limits g && ticks lo) (ticks hi) (kept (in_limits g && ticks lo && ticks hi) a) in
     let (i, l) = both (in_limits g) (ticks lo) d in
-    record { limits = record { passed = i }; low = ticks_within lo l; high = ticks_within hi h; order = b; no_distance = c; apart = none_last (coincident g) 7 e3 }
+    record { limits = record { passed = i }; low = ticks_within lo l; high = ticks_within hi h; order = b; apart = none_last (coincident g) 7 e3 }
 
 -- ---- anchors apart: L is above 0
 pub same_yes : (a b : ℤ) → a ≡ b → T (eq_z a b)
@@ -92,41 +88,32 @@ linear_apart g l t = anchors_apart g.from g.to (go (is_linear g) (same g.from g.
 
 -- a fact of the compiled grade, from the two that it may be
 pub by_ends : (g : Grade) (P : GradeDef → Type 0)
-    → (T (is_linear g && not (eq_z g.start g.end)) → P (record { kind = LevelKind.Linear; linear = numbers g }))
-    → (T (not (is_linear g && not (eq_z g.start g.end))) → P (constant_def g.start))
+    → (T (is_linear g && not (eq_z g.start g.end)) → P (GradeDef.Linear (numbers g)))
+    → (T (not (is_linear g && not (eq_z g.start g.end))) → P (GradeDef.Constant g.start))
     → P (compiled g)
 unfolding compiled
-by_ends g = choose (is_linear g && not (eq_z g.start g.end)) (record { kind = LevelKind.Linear; linear = numbers g }) (constant_def g.start)
+by_ends g = choose (is_linear g && not (eq_z g.start g.end)) (GradeDef.Linear (numbers g)) (GradeDef.Constant g.start)
 
 -- the same where the ends are not asked
 pub by_kind : (g : Grade) (P : GradeDef → Type 0)
-    → (T (is_linear g) → P (record { kind = LevelKind.Linear; linear = numbers g }))
-    → (T (not (is_linear g && not (eq_z g.start g.end))) → P (constant_def g.start))
+    → (T (is_linear g) → P (GradeDef.Linear (numbers g)))
+    → (T (not (is_linear g && not (eq_z g.start g.end))) → P (GradeDef.Constant g.start))
     → P (compiled g)
 by_kind g P linear = by_ends g P (λ u. linear (both (is_linear g) (not (eq_z g.start g.end)) u).0)
 
 -- ---- so the compiled grade fits
-zero3 : (n : ℕ) → Within3 n (pos 0 ∷ pos 0 ∷ pos 0 ∷ [])
-zero3 n = record { x = within_zero n; y = within_zero n; z = within_zero n }
-
-pub constant_fits : {c : ℤ} → Within 4096 c → DefFits (constant_def c)
-unfolding constant_def
-constant_fits h = record { linear = record { from = zero3 1048576; direction = zero3 2097152; length = record { abs = lit≤ tt }; apart = lt_z_yes tt; start = h; end = h } }
-
 pub compiled_fits : (g : Grade) → InLimits g → T (not (coincident g)) → DefFits (compiled g)
 unfolding linear_of
 compiled_fits g i t = by_kind g DefFits
     (λ l. record {
-      linear = record {
-        from = s.from;
-        direction = minus_within s.to s.from;
-        length = dot_within (minus_within s.to s.from) (minus_within s.to s.from);
-        apart = linear_apart g l t;
-        start = s.start;
-        end = s.end;
-      };
+      from = s.from;
+      direction = minus_within s.to s.from;
+      length = dot_within (minus_within s.to s.from) (minus_within s.to s.from);
+      apart = linear_apart g l t;
+      start = s.start;
+      end = s.end;
     })
-    (λ _. constant_fits s.start)
+    (λ _. s.start)
   where
     s : Sizes g
     s = sizes g i

@@ -3,6 +3,7 @@
 use mathlib.Core.Path.{◌≡◌, refl, sym, ap, ◌∙◌, subst}
 use mathlib.Core.Bool.{Bool, true, false, not, ◌&&◌}
 use mathlib.Core.List.{List, [], ◌∷◌}
+use Rattle.std.specs.Prelude.{Option, Some, None, is_some}
 use Prim.Native.Nat.{ℕ, ◌<◌}
 use lib.Dec.{T, lit<}
 use lib.IntN.{ℤ, pos, ◌+ℤ◌, ◌-ℤ◌, ◌*ℤ◌}
@@ -14,14 +15,11 @@ use Rattle.exact.proofs.Ring.{lit, ◌⊕◌, ◌⊖◌, ◌⊗◌, ring}
 use Rattle.grade.specs.declared.Grade.{Grade}
 use Rattle.grade.specs.declared.Linear.{Linear}
 use Rattle.grade.specs.declared.GradeDef.{GradeDef}
-use Rattle.grade.specs.declared.LevelKind.{LevelKind}
-use Rattle.grade.specs.declared.AnchorAxis.{AnchorAxis}
-use Rattle.grade.specs.declared.AnchorAxis.TheVariants.{One}
 use Rattle.grade.specs.declared.Planes.{Planes}
 use Rattle.limits.specs.Ticks.{at}
 use Rattle.grade.specs.Grade.{eq_z, minus, dot}
-use Rattle.grade.specs.Exact.{linear_of, numbers, constant_def, compiled}
-use Rattle.grade.specs.Certified.{only, axis_of, axis, is_one, axis_by, def_axis, planes_on, planes, size, distance}
+use Rattle.grade.specs.Exact.{linear_of, numbers, compiled}
+use Rattle.grade.specs.Certified.{only, axis_of, axis, is_one, def_axis, planes_on, planes, size, distance}
 use Rattle.grade.specs.Fits.{Within3}
 use Rattle.grade.specs.Extended.{positions}
 use Rattle.grade.proofs.Axes.{three}
@@ -29,9 +27,9 @@ use Rattle.limits.proofs.TickLaws.{both}
 use Rattle.grade.proofs.Accepted.{by_kind}
 
 -- ---- it is below 3
-abbrev Below : AnchorAxis → Type 0
-Below (One i) = i < 3
-Below AnchorAxis.None = Unit {0}
+abbrev Below : Option ℕ → Type 0
+Below (Some i) = i < 3
+Below None = Unit {0}
 
 of_below : (x y z : Bool) → Below (axis_of x y z)
 of_below true y z = lit< tt
@@ -39,38 +37,55 @@ of_below false true z = lit< tt
 of_below false false true = lit< tt
 of_below false false false = tt
 
-below : (g : GradeDef) → Below (def_axis g)
-unfolding def_axis axis
-below g = go g.kind
+linear_below : (g : Linear) → Below (axis g)
+unfolding axis
+linear_below g = of_below (only (d 0) (d 1) (d 2)) (only (d 1) (d 2) (d 0)) (only (d 2) (d 0) (d 1))
   where
     d : ℕ → ℤ
-    d = at g.linear.direction
+    d = at g.direction
 
-    go : (k : LevelKind) → Below (axis_by k g.linear)
-    go LevelKind.Constant = tt
-    go LevelKind.Linear = of_below (only (d 0) (d 1) (d 2)) (only (d 1) (d 2) (d 0)) (only (d 2) (d 0) (d 1))
+below : (g : GradeDef) → Below (def_axis g)
+unfolding def_axis
+below (GradeDef.Constant c) = tt
+below (GradeDef.Linear g) = linear_below g
 
-pub axis_one : (g : GradeDef) {a : AnchorAxis} {i : ℕ} → a ≡ def_axis g → a ≡ One i → i < 3
+pub linear_axis_one : (g : Linear) {a : Option ℕ} {i : ℕ} → a ≡ axis g → a ≡ Some i → i < 3
+linear_axis_one g p q = subst Below (sym p ∙ q) (linear_below g)
+
+pub axis_one : (g : GradeDef) {a : Option ℕ} {i : ℕ} → a ≡ def_axis g → a ≡ Some i → i < 3
 axis_one g p q = subst Below (sym p ∙ q) (below g)
 
-abbrev pub PlanesBelow : Planes → Type 0
-PlanesBelow (Planes.Found i from to) = i < 3
-PlanesBelow Planes.None = Unit {0}
+-- std's test for none is the other way round
+pub one_test : {r : Bool} {a b : Option ℕ} → is_some a ≡ not r → a ≡ b → r ≡ not (is_one b)
+one_test {r} {a} {b} e p = turned r (is_one b) (sym e ∙ some a ∙ ap is_one p)
+  where
+    some : (a : Option ℕ) → is_some a ≡ is_one a
+    some (Some i) = refl
+    some None = refl
+
+    turned : (r s : Bool) → not r ≡ s → r ≡ not s
+    turned true s e = ap not e
+    turned false s e = ap not e
+
+abbrev pub PlanesBelow : Option Planes → Type 0
+PlanesBelow (Some p) = p.axis < 3
+PlanesBelow None = Unit {0}
 
 pub planes_below : (g : GradeDef) → PlanesBelow (planes g)
 unfolding planes
-planes_below g = go (def_axis g) (below g)
+planes_below (GradeDef.Constant c) = tt
+planes_below (GradeDef.Linear g) = go (axis g) (linear_below g)
   where
-    go : (a : AnchorAxis) → Below a → PlanesBelow (planes_on a g.linear)
-    go (One i) h = h
-    go AnchorAxis.None h = tt
+    go : (a : Option ℕ) → Below a → PlanesBelow (planes_on a g)
+    go (Some i) h = h
+    go None h = tt
 
 pub within_at : {n : ℕ} {v : List ℤ} → Within3 n v → (i : ℕ) → i < 3 → Within n (at v i)
 within_at {n} {v} h = three (λ i. Within n (at v i)) h.x h.y h.z
 
 -- ---- "the positions of `from` and `to` in ticks"
 pub planes_are : (g : Grade) → planes (compiled g) ≡ positions (def_axis (compiled g)) g
-unfolding planes def_axis axis linear_of minus constant_def
+unfolding planes def_axis axis linear_of minus
 planes_are g = by_kind g (λ G. planes G ≡ positions (def_axis G) g) (λ _. go (only (d 0) (d 1) (d 2)) (only (d 1) (d 2) (d 0)) (only (d 2) (d 0) (d 1))) (λ _. refl)
   where
     d : ℕ → ℤ
@@ -79,10 +94,13 @@ planes_are g = by_kind g (λ G. planes G ≡ positions (def_axis G) g) (λ _. go
     to : (a b : ℤ) → a +ℤ (b -ℤ a) ≡ b
     to a b = ring 2 (λ a b. a ⊕ (b ⊖ a)) (λ a b. b) tt (a ∷ b ∷ [])
 
+    found : ℕ → ℤ → Option Planes
+    found i z = Some (record { axis = i; from = at g.from i; to = z })
+
     go : (x y z : Bool) → planes_on (axis_of x y z) (numbers g) ≡ positions (axis_of x y z) g
-    go true y z = ap (Planes.Found 0 (at g.from 0)) (to (at g.from 0) (at g.to 0))
-    go false true z = ap (Planes.Found 1 (at g.from 1)) (to (at g.from 1) (at g.to 1))
-    go false false true = ap (Planes.Found 2 (at g.from 2)) (to (at g.from 2) (at g.to 2))
+    go true y z = ap (found 0) (to (at g.from 0) (at g.to 0))
+    go false true z = ap (found 1) (to (at g.from 1) (at g.to 1))
+    go false false true = ap (found 2) (to (at g.from 2) (at g.to 2))
     go false false false = refl
 
 -- ---- the "anchor distance": its square is L

@@ -11,11 +11,10 @@ use Rattle.exact.proofs.Size.{within_zero}
 use Rattle.exact.proofs.IntegerOrder.{zarith, ≤ℤ_antisym, <ℤ_le, sub_pos, le_or_lt}
 use Rattle.grade.specs.declared.Linear.{Linear}
 use Rattle.grade.specs.declared.GradeDef.{GradeDef}
-use Rattle.grade.specs.declared.LevelKind.{LevelKind}
 use Rattle.limits.specs.Ticks.{at}
 use Rattle.grade.specs.Grade.{eq_z}
 use Rattle.limits.specs.Refusals.{refused, ◌or_else◌}
-use Rattle.grade.specs.Certified.{only, axis_of, axis, is_one, size, distance, rise, slope_by, slope_bound, ending, linear_certification, certification_by, certification}
+use Rattle.grade.specs.Certified.{only, axis_of, axis, is_one, size, distance, rise, slope_bound, ending, linear_certification, certification}
 use Rattle.grade.specs.Fits.{DefFits, SlopeFits}
 use Rattle.limits.proofs.TickLaws.{both}
 use Rattle.grade.proofs.Accepted.{same_yes, first, second, third}
@@ -64,8 +63,5 @@ certified_one g e = kept (is_one (axis g)) (none_first (not (is_one (axis g))) 3
 
 pub slope_fits : (g : GradeDef) → DefFits g → certification g ≡ 0 → SlopeFits (slope_bound g)
 unfolding slope_bound certification
-slope_fits g f e = go g.kind e
-  where
-    go : (k : LevelKind) → certification_by k g.linear ≡ 0 → SlopeFits (slope_by k g.linear)
-    go LevelKind.Constant e = record { rise = within_zero 8192; distance = record { abs = lit≤ tt }; apart = lt_z_yes tt }
-    go LevelKind.Linear e = record { rise = rise_within g.linear f.linear; distance = distance_within g.linear f.linear; apart = distance_pos g.linear (certified_one g.linear e) }
+slope_fits (GradeDef.Constant c) f e = record { rise = within_zero 8192; distance = record { abs = lit≤ tt }; apart = lt_z_yes tt }
+slope_fits (GradeDef.Linear g) f e = record { rise = rise_within g f; distance = distance_within g f; apart = distance_pos g (certified_one g e) }

@@ -6,7 +6,7 @@ use lib.IntN.{pos, negsuc}
 use Rattle.exact.specs.Fraction.{whole, ◌/F◌, ◌≈F◌}
 use Rattle.exact.proofs.Fraction.{≤F_trans, ≈F_trans, ≈F_le, ≈F_ge, ≤F_antisym, over_whole}
 use Rattle.grade.specs.Grade.{in_limits, minus, dot, Point, level}
-use Rattle.grade.specs.Exact.{linear_of, constant_def, compiled, least_corner, greatest_corner, least_along, greatest_along, level_over, linear_range, range}
+use Rattle.grade.specs.Exact.{linear_of, compiled, least_corner, greatest_corner, least_along, greatest_along, level_over, linear_range, range}
 use Rattle.grade.specs.Refusals.{coincident}
 use Rattle.grade.specs.Fits.{InLimits}
 use Rattle.grade.specs.Holds.{InBox}
@@ -25,7 +25,7 @@ three : whole (negsuc 13421772799) /F 104857600 ≈F whole (negsuc 127)
 three = ≈F_trans (over_whole (negsuc 13421772799) (lit< tt)) (record { eq = refl })
 
 quarter : (p : Point) → InBox (along (pos 2560)) (along (pos 2560)) p → level G p ≈F whole (negsuc 127)
-unfolding minus dot linear_of constant_def compiled least_corner greatest_corner least_along greatest_along level_over linear_range range
+unfolding minus dot linear_of compiled least_corner greatest_corner least_along greatest_along level_over linear_range range
 quarter p inside =
     let (low, high) = (range_holds G (along (pos 2560)) (along (pos 2560)) apart).holds p inside in
     ≤F_antisym (≤F_trans high (≈F_le three)) (≤F_trans (≈F_ge three) low)

@@ -2,11 +2,11 @@
 -- certified; no other level has one. Assumes nothing.
 use mathlib.Core.Path.{◌≡◌, refl}
 use mathlib.Core.Bool.{Bool, not, ◌&&◌}
+use Rattle.std.specs.Prelude.{None}
 use lib.Dec.{T, T_not}
 use Rattle.grade.specs.declared.Grade.{Grade}
-use Rattle.grade.specs.declared.AnchorAxis.{AnchorAxis}
 use Rattle.grade.specs.Grade.{eq_z, is_linear}
-use Rattle.grade.specs.Exact.{numbers, constant_def, compiled}
+use Rattle.grade.specs.Exact.{numbers, compiled}
 use Rattle.grade.specs.Certified.{axis, is_one, def_axis, certification}
 use Rattle.grade.proofs.Accepted.{by_ends}
 use Rattle.grade.proofs.CertifiedLaws.{certified_one}
@@ -22,6 +22,6 @@ pub graded_one : (g : Grade) → T (is_linear g && not (eq_z g.start g.end)) →
 unfolding certification
 graded_one g t = by_ends g (λ c. certification c ≡ 0 → T (is_one (axis (numbers g)))) (λ _. certified_one (numbers g)) (λ u. absurd (T_not (unequal g) u t))
 
-pub ungraded_axis : (g : Grade) → T (not (is_linear g && not (eq_z g.start g.end))) → def_axis (compiled g) ≡ AnchorAxis.None
-unfolding def_axis constant_def
-ungraded_axis g t = by_ends g (λ c. def_axis c ≡ AnchorAxis.None) (λ u. absurd (T_not (unequal g) t u)) (λ _. refl)
+pub ungraded_axis : (g : Grade) → T (not (is_linear g && not (eq_z g.start g.end))) → def_axis (compiled g) ≡ None
+unfolding def_axis
+ungraded_axis g t = by_ends g (λ c. def_axis c ≡ None) (λ u. absurd (T_not (unequal g) t u)) (λ _. refl)

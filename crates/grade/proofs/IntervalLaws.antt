@@ -1,6 +1,6 @@
 -- The grade in intervals holds the grade: t, the level, its affine extension and its slope, at every rational point whose coordinates the
 -- box's intervals hold; and what the float piece says of them. In either arithmetic. Assumes nothing.
-use mathlib.Core.Path.{◌≡◌, refl, sym, ap, subst}
+use mathlib.Core.Path.{◌≡◌, refl, sym, subst}
 use mathlib.Core.Bool.{not, ◌&&◌}
 use mathlib.Core.List.{List, [], ◌∷◌}
 use Prim.Native.Nat.{ℕ, suc, ◌*◌, ◌^◌, ◌≤◌, ◌<◌}
@@ -18,7 +18,7 @@ use Rattle.exact.proofs.Fraction.{≈F_refl, ≈F_sym, ≈F_trans, ≈F_le, ≈F
 use Rattle.exact.proofs.Fraction.{over_times, over_whole, whole_sub}
 use Rattle.interval.specs.declared.Interval.{Interval}
 use Rattle.interval.specs.Step.{b64}
-use Rattle.interval.specs.Interval.{Arithmetic, sum, difference, product, quotient, clamp01}
+use Rattle.interval.specs.Interval.{Arithmetic, sum, clamp01}
 use Rattle.interval.specs.Nearest.{from_rational}
 use Rattle.interval.specs.Encloses.{value}
 use Rattle.interval.proofs.Membership.{In, equal_in, wider, zero_encloses, zero_value, zero_finite, one_value, one_finite, at_most_test, at_least_test}
@@ -28,12 +28,9 @@ use Rattle.interval.proofs.Bounds.{clamp_encloses}
 use Rattle.interval.proofs.Narrower.{sized}
 use Rattle.interval.proofs.NarrowerProducts.{quotient_strict}
 use Rattle.grade.specs.declared.Grade.{Grade}
-use Rattle.grade.specs.declared.LinearIntervals.{LinearIntervals}
-use Rattle.grade.specs.declared.GradeDef.{GradeDef}
-use Rattle.grade.specs.declared.LevelKind.{LevelKind}
 use Rattle.limits.specs.Ticks.{at}
 use Rattle.grade.specs.Grade.{direction, length_sq, Point, along, t, ramp_level, level}
-use Rattle.grade.specs.Exact.{linear_of, numbers, constant_def, compiled}
+use Rattle.grade.specs.Exact.{linear_of, numbers, compiled}
 use Rattle.grade.specs.Refusals.{coincident}
 use Rattle.grade.specs.Fits.{Within3, InLimits}
 use Rattle.grade.specs.Intervals.{unit, units, zero, linear_intervals, grade_intervals, box_at, along_axis, parameter_of, parameter, level_of, interval, affine}
@@ -100,27 +97,6 @@ piece_of_says {x} {X} h = chosen_says (le X.hi (b64 0)) (le one X.lo) (le (b64 0
     one = b64 0x3ff0_0000_0000_0000
 
 -- ---- in either arithmetic
--- an axis' share of t, from its entries
-pub along_axis_is : (ar : Arithmetic) (l : LinearIntervals) (i : ℕ) (x : Interval)
-    → along_axis ar l i x ≡ product (difference ar x (box_at l.from i)) (box_at l.direction i)
-unfolding along_axis
-along_axis_is ar l i x = refl
-
--- a level's intervals have its kind
-pub kind_is : (ar : Arithmetic) (G : GradeDef) → (grade_intervals ar G).kind ≡ G.kind
-unfolding grade_intervals
-kind_is ar G = refl
-
--- t from its shares, and the level from t
-pub parameter_of_is : (ar : Arithmetic) (l : LinearIntervals) (x y z : Interval)
-    → parameter_of ar l x y z ≡ quotient (sum ar (sum ar (sum ar zero x) y) z) l.length_sq
-unfolding parameter_of
-parameter_of_is ar l x y z = refl
-
-pub level_of_is : (ar : Arithmetic) (l : LinearIntervals) (t : Interval) → level_of ar l t ≡ sum ar l.start (product t l.rise)
-unfolding level_of
-level_of_is ar l t = refl
-
 module _ (ar : Arithmetic) where
   -- ---- t
   module _ (g : Grade) (s : Sizes g) (apart : pos 0 <ℤ length_sq g) where
@@ -210,22 +186,12 @@ module _ (ar : Arithmetic) where
           (≈F_trans (≈F_sym (over_mul rise x (lit< tt))) (over_cong (lit< tt) (comm_f rise x))))))
           (≈F_sym (over_add (whole g.start) (x *F rise) (lit< tt)))
 
-  -- ---- by the kind
-  pub intervals_kind : (G : GradeDef) → (grade_intervals ar G).kind ≡ G.kind
-  unfolding grade_intervals
-  intervals_kind G = refl
-
-  -- a constant's interval is its level's
-  pub constant_interval : (G : GradeDef) (w : List Interval) → G.kind ≡ LevelKind.Constant → interval ar (grade_intervals ar G) w ≡ unit G.linear.start
-  unfolding interval grade_intervals linear_intervals
-  constant_interval G w e = ap (λ (k : LevelKind). interval ar (record { kind = k; linear = linear_intervals ar G.linear }) w) e
-
   -- ---- THE FACTS, of an accepted level and a point whose coordinates, in millimetres, the box's intervals hold
   module _ (g : Grade) (limits : InLimits g) (apart : T (not (coincident g))) where
     module _ (p : Point) (w : List Interval) (holds : (i : ℕ) → i < 3 → In 40 (in_units (p i)) (box_at w i)) where
       -- the level
       pub interval_encloses : In 100 (in_units (level g p)) (interval ar (grade_intervals ar (compiled g)) w)
-      unfolding interval grade_intervals linear_intervals constant_def
+      unfolding interval grade_intervals linear_intervals
       interval_encloses = by_kind g (λ G. In 100 (in_units (level g p)) (interval ar (grade_intervals ar G) w))
           (λ l. subst (λ (q : Fraction). In 100 (in_units q)
           (level_of ar (linear_intervals ar (numbers g)) (clamp01 (parameter ar (linear_intervals ar (numbers g)) w)))) (sym (level_linear g p l))
@@ -234,7 +200,7 @@ module _ (ar : Arithmetic) where
 
       -- its affine extension
       pub affine_encloses : In 100 (in_units (affine_level g p)) (affine ar (grade_intervals ar (compiled g)) w)
-      unfolding affine grade_intervals linear_intervals constant_def
+      unfolding affine grade_intervals linear_intervals
       affine_encloses = by_kind g (λ G. In 100 (in_units (affine_level g p)) (affine ar (grade_intervals ar G) w))
           (λ l. subst (λ (q : Fraction). In 100 (in_units q) (level_of ar (linear_intervals ar (numbers g)) (parameter ar (linear_intervals ar (numbers g)) w)))
           (sym (affine_linear g p l))
@@ -243,7 +209,7 @@ module _ (ar : Arithmetic) where
 
       -- what the piece says of the level
       pub piece_says : SaysLevel g p (piece ar (grade_intervals ar (compiled g)) w)
-      unfolding piece grade_intervals constant_def
+      unfolding piece grade_intervals
       piece_says = by_kind g (λ G. SaysLevel g p (piece ar (grade_intervals ar G) w))
           (λ l. says_level g p l (piece_of (parameter ar (linear_intervals ar (numbers g)) w))
           (piece_of_says (parameter_encloses g (sizes g limits) (linear_apart g l apart) p w holds)))

@@ -2,14 +2,14 @@
 -- The layer of the public calls joins them. Assumes nothing.
 use mathlib.Core.Path.{◌≡◌, refl}
 use mathlib.Core.Bool.{true}
+use Rattle.std.specs.Prelude.{Option, Some, None}
 use Prim.Native.Nat.{ℕ}
 use lib.IntN.{ℤ, pos, negsuc}
 use Rattle.grade.specs.declared.Grade.{Grade}
 use Rattle.grade.specs.declared.Piece.TheVariants.{Start, Ramp, End}
-use Rattle.grade.specs.declared.PieceAnswer.{PieceAnswer}
-use Rattle.grade.specs.declared.PieceAnswer.TheVariants.{Found, None}
+use Rattle.grade.specs.declared.Piece.{Piece}
 use Rattle.grade.specs.Grade.{in_limits, minus, dot, length_sq}
-use Rattle.grade.specs.Exact.{linear_of, constant_def, compiled, least_corner, greatest_corner, least_along, greatest_along, level_over}
+use Rattle.grade.specs.Exact.{linear_of, compiled, least_corner, greatest_corner, least_along, greatest_along, level_over}
 use Rattle.grade.specs.Exact.{linear_range, range, linear_piece, exact_piece}
 use Rattle.grade.specs.Refusals.{range_refusal}
 use Rattle.grade.specs.Certified.{axis, distance, rise, linear_certification, certification}
@@ -17,7 +17,7 @@ use Rattle.grade.specs.Calls.{range_call}
 use Rattle.grade.specs.Marked.{along, ramp, G, Ranges}
 
 -- the piece of G over x from a to b
-abbrev Pieced : ℤ → ℤ → PieceAnswer → Type 0
+abbrev Pieced : ℤ → ℤ → Option Piece → Type 0
 Pieced a b piece = exact_piece (compiled G) (along a) (along b) ≡ piece
 
 -- a level within its limits, that certification gives the number n
@@ -29,11 +29,11 @@ pub record LevelPart : Type 0 where
   pub one : Ranges (pos 0) (pos 5120) (negsuc 26843545599) (pos 0)
   pub two : Ranges (negsuc 99) (pos 20000) (negsuc 26843545599) (pos 26843545600)
   pub three : Ranges (pos 2560) (pos 2560) (negsuc 13421772799) (negsuc 13421772799)
-  pub four : Pieced (negsuc 4) (pos 0) (Found Start)
-  pub five : Pieced (pos 0) (pos 10240) (Found Ramp)
-  pub six : Pieced (pos 10240) (pos 10250) (Found End)
+  pub four : Pieced (negsuc 4) (pos 0) (Some Start)
+  pub five : Pieced (pos 0) (pos 10240) (Some Ramp)
+  pub six : Pieced (pos 10240) (pos 10250) (Some End)
   pub seven : Pieced (negsuc 0) (pos 1) None
-  pub eight : Pieced (pos 0) (pos 0) (Found Start)
+  pub eight : Pieced (pos 0) (pos 0) (Some Start)
   pub certified : Certifies G 0
   pub nine : Certifies (ramp 5120 (negsuc 255) (pos 256)) 0
   pub ten : Certifies (ramp 5119 (negsuc 255) (pos 256)) 5
@@ -42,7 +42,7 @@ pub record LevelPart : Type 0 where
   pub limits : in_limits (ramp 0 (pos 0) (pos 0)) ≡ true
 
 pub level_part : LevelPart
-unfolding in_limits minus dot linear_of constant_def compiled least_corner greatest_corner least_along greatest_along level_over linear_range range
+unfolding in_limits minus dot linear_of compiled least_corner greatest_corner least_along greatest_along level_over linear_range range
     linear_piece exact_piece range_refusal range_call axis distance rise linear_certification certification
 level_part = record {
   length = refl;

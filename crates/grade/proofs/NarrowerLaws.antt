@@ -15,10 +15,9 @@ use Rattle.interval.proofs.NarrowerProducts.{product_nested, quotient_nested}
 use Rattle.grade.specs.declared.Grade.{Grade}
 use Rattle.grade.specs.declared.GradeDef.{GradeDef}
 use Rattle.grade.specs.declared.LinearIntervals.{LinearIntervals}
-use Rattle.grade.specs.declared.LevelKind.{LevelKind}
 use Rattle.grade.specs.declared.Piece.{Piece}
 use Rattle.grade.specs.Grade.{length_sq}
-use Rattle.grade.specs.Exact.{linear_of, numbers, constant_def, compiled}
+use Rattle.grade.specs.Exact.{linear_of, numbers, compiled}
 use Rattle.grade.specs.Refusals.{coincident}
 use Rattle.grade.specs.Fits.{InLimits}
 use Rattle.grade.specs.Intervals.{unit, zero, linear_intervals, grade_intervals, box_at, along_axis, parameter_of, parameter, level_of}
@@ -70,13 +69,13 @@ module _
   flat = looser 100 tt (itself (start ar g (sizes g limits)))
 
   pub interval_nested : Nested 100 (interval ar (grade_intervals ar (compiled g)) w) (interval Wide (grade_intervals Wide (compiled g)) w)
-  unfolding interval grade_intervals linear_intervals constant_def
+  unfolding interval grade_intervals linear_intervals
   interval_nested = by_kind g (λ G. Nested 100 (interval ar (grade_intervals ar G) w) (interval Wide (grade_intervals Wide G) w))
       (λ l. looser 100 tt (level_of_nested ar g (sizes g limits) (clamp_nested (parameter_nested ar g (sizes g limits) (linear_apart g l apart) w box))))
       (λ u. flat)
 
   pub affine_nested : Nested 100 (affine ar (grade_intervals ar (compiled g)) w) (affine Wide (grade_intervals Wide (compiled g)) w)
-  unfolding affine grade_intervals linear_intervals constant_def
+  unfolding affine grade_intervals linear_intervals
   affine_nested = by_kind g (λ G. Nested 100 (affine ar (grade_intervals ar G) w) (affine Wide (grade_intervals Wide G) w))
       (λ l. looser 100 tt (level_of_nested ar g (sizes g limits) (parameter_nested ar g (sizes g limits) (linear_apart g l apart) w box)))
       (λ u. flat)
@@ -85,10 +84,6 @@ module _
 pub piece_gradient_same : (ar : Arithmetic) (G : GradeDef) (p : Piece) → piece_gradient (grade_intervals ar G) p ≡ piece_gradient (grade_intervals Wide G) p
 unfolding piece_gradient gradient grade_intervals linear_intervals
 piece_gradient_same ar G Piece.Start = refl
-piece_gradient_same ar G Piece.Ramp = go G.kind
-  where
-    go : (k : LevelKind)
-        → gradient (record { kind = k; linear = linear_intervals ar G.linear }) ≡ gradient (record { kind = k; linear = linear_intervals Wide G.linear })
-    go LevelKind.Constant = refl
-    go LevelKind.Linear = refl
+piece_gradient_same ar (GradeDef.Constant c) Piece.Ramp = refl
+piece_gradient_same ar (GradeDef.Linear g) Piece.Ramp = refl
 piece_gradient_same ar G Piece.End = refl

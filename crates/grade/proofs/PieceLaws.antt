@@ -2,6 +2,7 @@
 use mathlib.Core.Path.{sym, subst, subst⁻¹}
 use mathlib.Core.Bool.{Bool, true, false, not, ◌&&◌}
 use mathlib.Core.List.{List}
+use Rattle.std.specs.Prelude.{Option, Some, None}
 use lib.Dec.{T}
 use lib.IntN.{ℤ, pos, nat_abs}
 use lib.Signed.{le_z, le_z_yes, ◌<ℤ◌}
@@ -10,10 +11,9 @@ use Rattle.exact.proofs.Fraction.{≤F_trans, ≈F_sym, ≈F_trans, ≈F_le, ≈
 use Rattle.exact.proofs.FractionSize.{held_low, held_high, held_between}
 use Rattle.grade.specs.declared.Grade.{Grade}
 use Rattle.grade.specs.declared.Piece.TheVariants.{Start, Ramp, End}
-use Rattle.grade.specs.declared.PieceAnswer.{PieceAnswer}
-use Rattle.grade.specs.declared.PieceAnswer.TheVariants.{Found, None}
+use Rattle.grade.specs.declared.Piece.{Piece}
 use Rattle.grade.specs.Grade.{is_linear, length_sq, Point, t, ramp_level, level}
-use Rattle.grade.specs.Exact.{linear_of, numbers, constant_def, compiled, least_along, greatest_along, chosen, linear_piece, exact_piece}
+use Rattle.grade.specs.Exact.{linear_of, numbers, compiled, least_along, greatest_along, chosen, linear_piece, exact_piece}
 use Rattle.grade.specs.Refusals.{coincident}
 use Rattle.grade.specs.Holds.{InBox, SaysLevel}
 use Rattle.grade.specs.Extended.{Says, affine_level}
@@ -30,20 +30,20 @@ chosen_says false false true x s e r = r tt
 chosen_says false false false x s e r = tt
 
 -- and on to the level of a linear level
-pub says_level : (g : Grade) (p : Point) → T (is_linear g) → (a : PieceAnswer) → Says a (t g p) → SaysLevel g p a
+pub says_level : (g : Grade) (p : Point) → T (is_linear g) → (a : Option Piece) → Says a (t g p) → SaysLevel g p a
 says_level g p l a h = go a h
   where
     held_level : {x : Fraction} → held_f (t g p) one_f ≈F x → level g p ≈F ramp_level g x
     held_level {x} e = subst (λ (q : Fraction). q ≈F ramp_level g x) (sym (level_linear g p l)) (ramp_cong g e)
 
-    go : (a : PieceAnswer) → Says a (t g p) → SaysLevel g p a
-    go (Found Start) h = ≈F_trans (held_level (held_low (t g p) one_f (whole_le (le_z_yes tt)) h)) (ramp_zero g)
-    go (Found Ramp) h = held_level (held_between (t g p) one_f h.0 h.1)
-    go (Found End) h = ≈F_trans (held_level (held_high (t g p) one_f h)) (ramp_one g)
+    go : (a : Option Piece) → Says a (t g p) → SaysLevel g p a
+    go (Some Start) h = ≈F_trans (held_level (held_low (t g p) one_f (whole_le (le_z_yes tt)) h)) (ramp_zero g)
+    go (Some Ramp) h = held_level (held_between (t g p) one_f h.0 h.1)
+    go (Some End) h = ≈F_trans (held_level (held_high (t g p) one_f h)) (ramp_one g)
     go None h = tt
 
 -- on a ramp the level is its affine extension
-pub ramp_affine : (g : Grade) (p : Point) → SaysLevel g p (Found Ramp) → level g p ≈F affine_level g p
+pub ramp_affine : (g : Grade) (p : Point) → SaysLevel g p (Some Ramp) → level g p ≈F affine_level g p
 ramp_affine g p h = by_kind g (λ _. level g p ≈F affine_level g p) (λ l. subst⁻¹ (λ (q : Fraction). level g p ≈F q) (affine_linear g p l) h) (λ u. ≈F_trans (level_flat g p u) (≈F_sym (affine_flat g p u)))
 
 -- ---- the exact piece
@@ -71,7 +71,7 @@ module _ (g : Grade) (apart : pos 0 <ℤ length_sq g) (lo hi : List ℤ) (p : Po
 
 -- THE FACT
 pub exact_piece_says : (g : Grade) (lo hi : List ℤ) → T (not (coincident g)) → (p : Point) → InBox lo hi p → SaysLevel g p (exact_piece (compiled g) lo hi)
-unfolding exact_piece constant_def
+unfolding exact_piece
 exact_piece_says g lo hi apart p inside = by_kind g (λ G. SaysLevel g p (exact_piece G lo hi))
     (λ l. says_level g p l (linear_piece (numbers g) lo hi) (linear_piece_says g (linear_apart g l apart) lo hi p inside))
     (level_flat g p)

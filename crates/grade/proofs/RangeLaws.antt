@@ -14,7 +14,7 @@ use Rattle.exact.proofs.FractionSize.{held_mono, held_cong}
 use Rattle.grade.specs.declared.Grade.{Grade}
 use Rattle.limits.specs.Ticks.{at}
 use Rattle.grade.specs.Grade.{eq_z, is_linear, direction, length_sq, Point, along, t, ramp_level, level}
-use Rattle.grade.specs.Exact.{linear_of, numbers, constant_def, compiled}
+use Rattle.grade.specs.Exact.{linear_of, numbers, compiled}
 use Rattle.grade.specs.Exact.{least_corner, greatest_corner, least_along, greatest_along, level_over, bounds_of, linear_range, range}
 use Rattle.grade.specs.Refusals.{coincident}
 use Rattle.grade.specs.Holds.{Taken, RangeHolds}
@@ -121,5 +121,5 @@ flat_holds g lo hi u = record {
 
 -- THE FACT
 pub range_holds : (g : Grade) (lo hi : List ℤ) → T (not (coincident g)) → RangeHolds g lo hi (range (compiled g) lo hi)
-unfolding range constant_def
+unfolding range
 range_holds g lo hi apart = by_kind g (λ G. RangeHolds g lo hi (range G lo hi)) (λ l. linear_holds g l (linear_apart g l apart) lo hi) (flat_holds g lo hi)

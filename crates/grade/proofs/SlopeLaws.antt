@@ -20,7 +20,7 @@ use Rattle.grade.specs.declared.Piece.{Piece}
 use Rattle.grade.specs.declared.Piece.TheVariants.{Start, Ramp, End}
 use Rattle.limits.specs.Ticks.{at}
 use Rattle.grade.specs.Grade.{eq_z, is_linear, direction, length_sq, Point, along, t}
-use Rattle.grade.specs.Exact.{linear_of, numbers, constant_def, compiled}
+use Rattle.grade.specs.Exact.{linear_of, numbers, compiled}
 use Rattle.grade.specs.Refusals.{coincident}
 use Rattle.grade.specs.Fits.{InLimits}
 use Rattle.grade.specs.Intervals.{slopes, slope_along, linear_intervals, grade_intervals, box_at, zeros, gradient, piece_gradient}
@@ -101,7 +101,7 @@ affine_about g apart p m = by_kind g (λ _. affine_level g p ≈F affine_level g
 module _ (ar : Arithmetic) where
   pub gradient_encloses : (g : Grade) → InLimits g → T (not (coincident g)) → (i : ℕ) → i < 3
       → In 100 (slope g i) (box_at (gradient (grade_intervals ar (compiled g))) i)
-  unfolding gradient grade_intervals linear_intervals linear_of constant_def
+  unfolding gradient grade_intervals linear_intervals linear_of
   gradient_encloses g limits apart i l = by_kind g (λ G. In 100 (slope g i) (box_at (gradient (grade_intervals ar G)) i))
       (λ k. subst (λ (q : Fraction). In 100 q (box_at (slopes (numbers g)) i)) (sym (slope_linear g i k))
       (subst (In 100 (whole numerator /F nat_abs (length_sq g))) (sym (slopes_at g i l)) (steep (length_pos g (linear_apart g k apart)))))

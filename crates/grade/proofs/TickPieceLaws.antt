@@ -24,7 +24,7 @@ use Rattle.interval.proofs.Narrower.{low_end, high_end}
 use Rattle.grade.specs.declared.Grade.{Grade}
 use Rattle.limits.specs.Ticks.{at}
 use Rattle.grade.specs.Grade.{direction, length_sq, t}
-use Rattle.grade.specs.Exact.{linear_of, numbers, constant_def, compiled, least_corner, greatest_corner, least_along, greatest_along, chosen}
+use Rattle.grade.specs.Exact.{linear_of, numbers, compiled, least_corner, greatest_corner, least_along, greatest_along, chosen}
 use Rattle.grade.specs.Refusals.{coincident}
 use Rattle.grade.specs.Fits.{InLimits}
 use Rattle.grade.specs.Intervals.{linear_intervals, grade_intervals, box_at, parameter, piece_of, piece}
@@ -130,7 +130,7 @@ module _ (ar : Arithmetic) (g : Grade) (s : Sizes g) (apart : pos 0 <ℤ length_
 -- THE FACT, of an accepted level
 pub tick_piece_same : (ar : Arithmetic) (g : Grade) → InLimits g → T (not (coincident g)) → (lo hi : List ℤ) (w : List Interval) → WholeTicks lo hi w
     → piece ar (grade_intervals ar (compiled g)) w ≡ piece Wide (grade_intervals Wide (compiled g)) w
-unfolding piece grade_intervals constant_def
+unfolding piece grade_intervals
 tick_piece_same ar g limits apart lo hi w box = by_kind g (λ G. piece ar (grade_intervals ar G) w ≡ piece Wide (grade_intervals Wide G) w)
     (λ l. let a = linear_apart g l apart in let s = sizes g limits in tick_piece ar g s a lo hi w box ∙ sym (tick_piece Wide g s a lo hi w box))
     (λ u. refl)

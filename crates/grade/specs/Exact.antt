@@ -1,37 +1,25 @@
 -- The compiled grade and its exact answers, numerators over L: document 01's "Exact grade". Definitions only; assumes nothing.
-use Rattle.std.specs.Prelude.{Bool, cond, not, ◌&&◌, List, [], ◌∷◌, ℤ, pos, ◌+ℤ◌, ◌-ℤ◌, ◌*ℤ◌}
+use Rattle.std.specs.Prelude.{Bool, cond, Option, Some, None, not, ◌&&◌, List, [], ◌∷◌, ℤ, pos, ◌+ℤ◌, ◌-ℤ◌, ◌*ℤ◌}
 use Rattle.std.specs.Int.Signed.{lt_z, le_z}
 use Rattle.grade.specs.declared.Grade.{Grade}
 use Rattle.grade.specs.declared.Linear.{Linear}
 use Rattle.grade.specs.declared.Bounds.{Bounds}
 use Rattle.grade.specs.declared.GradeDef.{GradeDef}
-use Rattle.grade.specs.declared.LevelKind.{LevelKind}
+use Rattle.grade.specs.declared.Piece.{Piece}
 use Rattle.grade.specs.declared.Piece.TheVariants.{Start, Ramp, End}
-use Rattle.grade.specs.declared.PieceAnswer.{PieceAnswer}
-use Rattle.grade.specs.declared.PieceAnswer.TheVariants.{Found, None}
 use Rattle.limits.specs.Ticks.{at}
 use Rattle.grade.specs.Grade.{eq_z, is_linear, minus, dot}
 
--- ---- compiled: the linear level's numbers beside its kind
+-- ---- compiled: a constant, or the linear level's numbers
 unfoldable pub linear_of : List ℤ → List ℤ → ℤ → ℤ → Linear
 linear_of from to start end = record { from = from; direction = minus to from; length_sq = dot (minus to from) (minus to from); start = start; end = end }
 
 abbrev pub numbers : Grade → Linear
 numbers g = linear_of g.from g.to g.start g.end
 
--- a constant, which has no anchors
-unfoldable pub constant_def : ℤ → GradeDef
-constant_def c = record {
-  kind = LevelKind.Constant;
-  linear = record { from = pos 0 ∷ pos 0 ∷ pos 0 ∷ []; direction = pos 0 ∷ pos 0 ∷ pos 0 ∷ []; length_sq = pos 1; start = c; end = c };
-}
-
 -- "Equal start and end become a constant, anchors and range unchecked"
 unfoldable pub compiled : Grade → GradeDef
-compiled g =
-    cond (is_linear g && not (eq_z g.start g.end))
-    (record { kind = LevelKind.Linear; linear = numbers g })
-    (constant_def g.start)
+compiled g = cond (is_linear g && not (eq_z g.start g.end)) (GradeDef.Linear (numbers g)) (GradeDef.Constant g.start)
 
 -- ---- t's numerator over a box: along an axis it grows with the coordinate where d is above 0, and elsewhere it does not
 -- the end of lo..hi where x·d is least, and the one where it is greatest
@@ -72,28 +60,22 @@ bounds_of a b over = record { low = cond (lt_z b a) b a; high = cond (lt_z b a) 
 unfoldable pub linear_range : Linear → List ℤ → List ℤ → Bounds
 linear_range g lo hi = bounds_of (level_over g (least_along g lo hi)) (level_over g (greatest_along g lo hi)) g.length_sq
 
-abbrev range_by : LevelKind → Linear → List ℤ → List ℤ → Bounds
-range_by LevelKind.Constant g lo hi = record { low = g.start; high = g.start; over = pos 1 }
-range_by LevelKind.Linear g lo hi = linear_range g lo hi
-
 unfoldable pub range : GradeDef → List ℤ → List ℤ → Bounds
-range g lo hi = range_by g.kind g.linear lo hi
+range (GradeDef.Constant c) lo hi = record { low = c; high = c; over = pos 1 }
+range (GradeDef.Linear g) lo hi = linear_range g lo hi
 
 -- ---- "`exact_piece` tests in this order: constant Start; greatest t ≤ 0 Start; least t ≥ 1 End; both in 0..1 Ramp; else none."
-abbrev pub chosen : Bool → Bool → Bool → PieceAnswer
-chosen start end ramp = cond start (Found Start) (cond end (Found End) (cond ramp (Found Ramp) None))
+abbrev pub chosen : Bool → Bool → Bool → Option Piece
+chosen start end ramp = cond start (Some Start) (cond end (Some End) (cond ramp (Some Ramp) None))
 
 -- t is its numerator over L, which is above 0
-unfoldable pub linear_piece : Linear → List ℤ → List ℤ → PieceAnswer
+unfoldable pub linear_piece : Linear → List ℤ → List ℤ → Option Piece
 linear_piece g lo hi =
     let least = least_along g lo hi in
     let greatest = greatest_along g lo hi in
     let l = g.length_sq in
     chosen (le_z greatest (pos 0)) (le_z l least) (le_z (pos 0) least && le_z greatest l)
 
-abbrev piece_by : LevelKind → Linear → List ℤ → List ℤ → PieceAnswer
-piece_by LevelKind.Constant g lo hi = Found Start
-piece_by LevelKind.Linear g lo hi = linear_piece g lo hi
-
-unfoldable pub exact_piece : GradeDef → List ℤ → List ℤ → PieceAnswer
-exact_piece g lo hi = piece_by g.kind g.linear lo hi
+unfoldable pub exact_piece : GradeDef → List ℤ → List ℤ → Option Piece
+exact_piece (GradeDef.Constant c) lo hi = Some Start
+exact_piece (GradeDef.Linear g) lo hi = linear_piece g lo hi

@@ -1,15 +1,11 @@
 -- What the proofs say of the level besides: a piece in t, the affine extension and its slope, the positions of the anchors, a box of whole ticks.
 -- No promise of a public call speaks by these. Definitions only; assumes nothing.
-use Rattle.std.specs.Prelude.{cond, List, ℕ, ◌<◌, ℤ, nat_abs, ◌-ℤ◌, ◌*ℤ◌, ◌≤ℤ◌}
+use Rattle.std.specs.Prelude.{cond, Option, Some, None, List, ℕ, ◌<◌, ℤ, nat_abs, ◌-ℤ◌, ◌*ℤ◌, ◌≤ℤ◌}
 use Rattle.exact.specs.Fraction.{Fraction, whole, zero_f, one_f, ◌/F◌, ◌≤F◌}
 use Rattle.interval.specs.declared.Interval.{Interval}
 use Rattle.grade.specs.declared.Grade.{Grade}
 use Rattle.grade.specs.declared.Piece.{Piece}
 use Rattle.grade.specs.declared.Piece.TheVariants.{Start, Ramp, End}
-use Rattle.grade.specs.declared.PieceAnswer.{PieceAnswer}
-use Rattle.grade.specs.declared.PieceAnswer.TheVariants.{Found, None}
-use Rattle.grade.specs.declared.AnchorAxis.{AnchorAxis}
-use Rattle.grade.specs.declared.AnchorAxis.TheVariants.{One}
 use Rattle.grade.specs.declared.Planes.{Planes}
 use Rattle.grade.specs.Holds.{OfTicks}
 use Rattle.limits.specs.Ticks.{at}
@@ -17,16 +13,16 @@ use Rattle.grade.specs.Grade.{Point, is_linear, direction, length_sq, t, ramp_le
 use Rattle.grade.specs.Fits.{Within3}
 
 -- ---- what a piece says of t
-abbrev pub Says : PieceAnswer → Fraction → Type 0
-Says (Found Start) t = t ≤F zero_f
-Says (Found Ramp) t = (zero_f ≤F t) × (t ≤F one_f)
-Says (Found End) t = one_f ≤F t
+abbrev pub Says : Option Piece → Fraction → Type 0
+Says (Some Start) t = t ≤F zero_f
+Says (Some Ramp) t = (zero_f ≤F t) × (t ≤F one_f)
+Says (Some End) t = one_f ≤F t
 Says None t = Unit {0}
 
 -- ---- the positions of `from` and `to` on an axis
-abbrev pub positions : AnchorAxis → Grade → Planes
-positions (One i) g = Planes.Found i (at g.from i) (at g.to i)
-positions AnchorAxis.None g = Planes.None
+abbrev pub positions : Option ℕ → Grade → Option Planes
+positions (Some i) g = Some (record { axis = i; from = at g.from i; to = at g.to i })
+positions None g = None
 
 -- ---- the affine extension of the level, and its slope along an axis in level counts per tick
 unfoldable pub affine_level : Grade → Point → Fraction

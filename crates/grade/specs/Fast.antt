@@ -6,7 +6,6 @@ use Rattle.interval.specs.Step.{b64}
 use Rattle.interval.specs.Nearest.{nearest}
 use Rattle.grade.specs.declared.Linear.{Linear}
 use Rattle.grade.specs.declared.GradeDef.{GradeDef}
-use Rattle.grade.specs.declared.LevelKind.{LevelKind}
 use Rattle.limits.specs.Ticks.{at}
 
 -- ticks in millimetres, and level counts as levels
@@ -31,9 +30,6 @@ fast_parameter g p = div binary64 (add binary64 (add binary64 (fast_axis g p 0) 
 unfoldable pub linear_fast : Linear → List Float → Float
 linear_fast g p = add binary64 (near g.start) (mul binary64 (clamp (fast_parameter g p)) (sub binary64 (near g.end) (near g.start)))
 
-abbrev fast_by : LevelKind → Linear → List Float → Float
-fast_by LevelKind.Constant g p = near g.start
-fast_by LevelKind.Linear g p = linear_fast g p
-
 unfoldable pub fast : GradeDef → List Float → Float
-fast g p = fast_by g.kind g.linear p
+fast (GradeDef.Constant c) p = near c
+fast (GradeDef.Linear g) p = linear_fast g p

@@ -27,8 +27,9 @@ pub record LinearFits (g : Linear) : Type 0 where
   pub start : Within 4096 g.start
   pub end : Within 4096 g.end
 
-pub record DefFits (g : GradeDef) : Type 0 where
-  pub linear : LinearFits g.linear
+abbrev pub DefFits : GradeDef → Type 0
+DefFits (GradeDef.Constant c) = Within 4096 c
+DefFits (GradeDef.Linear g) = LinearFits g
 
 -- the slope's parts, of a grade that certification has passed
 pub record SlopeFits (s : Slope) : Type 0 where

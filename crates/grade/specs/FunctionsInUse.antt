@@ -1,11 +1,11 @@
 -- THE REST AT THE ARITHMETIC IN USE: what the layer's functions say, and no promise of a public call. Definitions only; assumes nothing.
-use Rattle.std.specs.Prelude.{List, ℕ}
+use Rattle.std.specs.Prelude.{List, ℕ, Option}
 use Rattle.interval.specs.declared.Interval.{Interval}
 use Rattle.grade.specs.declared.Linear.{Linear}
 use Rattle.grade.specs.declared.GradeDef.{GradeDef}
 use Rattle.grade.specs.declared.LinearIntervals.{LinearIntervals}
 use Rattle.grade.specs.declared.GradeIntervals.{GradeIntervals}
-use Rattle.grade.specs.declared.PieceAnswer.{PieceAnswer}
+use Rattle.grade.specs.declared.Piece.{Piece}
 use Rattle.grade.specs.Intervals
 use Rattle.grade.specs.InUse.{in_use}
 
@@ -33,5 +33,5 @@ interval = Intervals.interval in_use
 abbrev pub affine : GradeIntervals → List Interval → Interval
 affine = Intervals.affine in_use
 
-abbrev pub piece : GradeIntervals → List Interval → PieceAnswer
+abbrev pub piece : GradeIntervals → List Interval → Option Piece
 piece = Intervals.piece in_use

@@ -10,9 +10,13 @@ use Rattle.grade.specs.declared.Grade.{Grade}
 abbrev pub count : ℤ → Bool
 count z = le_z (negsuc 4095) z && le_z z (pos 4096)
 
--- "level kind (0 constant, 1 linear, 2 distance)", "Limits bind unused entries too."
+-- "level kind (0 constant, 1 linear, 2 distance)"
+abbrev pub kind : ℤ → Bool
+kind z = le_z (pos 0) z && le_z z (pos 2)
+
+-- "Limits bind unused entries too."
 unfoldable pub in_limits : Grade → Bool
-in_limits g = le_z (pos 0) g.kind && le_z g.kind (pos 2) && ticks g.from && ticks g.to && count g.start && count g.end
+in_limits g = kind g.kind && ticks g.from && ticks g.to && count g.start && count g.end
 
 -- whether two whole numbers are equal
 abbrev pub eq_z : ℤ → ℤ → Bool

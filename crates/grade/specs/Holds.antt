@@ -1,5 +1,5 @@
 -- What the answers say of every rational point of a box: the statements that proofs/ proves. Definitions only; assumes nothing.
-use Rattle.std.specs.Prelude.{◌≡◌, ◌⊎◌, List, ℕ, ◌<◌, T, ℤ, nat_abs, ◌≤ℤ◌, Float}
+use Rattle.std.specs.Prelude.{◌≡◌, ◌⊎◌, Option, Some, None, List, ℕ, ◌<◌, T, ℤ, nat_abs, ◌≤ℤ◌, Float}
 use Rattle.std.specs.Float.Ieee.Scale.{finite}
 use Rattle.exact.specs.Fraction.{Fraction, whole, ◌/F◌, ◌≤F◌, ◌≈F◌}
 use Rattle.interval.specs.declared.Interval.{Interval}
@@ -7,8 +7,7 @@ use Rattle.interval.specs.Encloses.{value}
 use Rattle.grade.specs.declared.Grade.{Grade}
 use Rattle.grade.specs.declared.Bounds.{Bounds}
 use Rattle.grade.specs.declared.Piece.TheVariants.{Start, Ramp, End}
-use Rattle.grade.specs.declared.PieceAnswer.{PieceAnswer}
-use Rattle.grade.specs.declared.PieceAnswer.TheVariants.{Found, None}
+use Rattle.grade.specs.declared.Piece.{Piece}
 use Rattle.limits.specs.Ticks.{at}
 use Rattle.grade.specs.Grade.{Point, t, ramp_level, level}
 use Rattle.grade.specs.Intervals.{box_at}
@@ -46,8 +45,8 @@ pub record RangeHolds (g : Grade) (lo hi : List ℤ) (b : Bounds) : Type 0 where
   pub high_taken : Taken g lo hi (fraction b b.high)
 
 -- ---- what a piece says of the level
-abbrev pub SaysLevel : Grade → Point → PieceAnswer → Type 0
-SaysLevel g p (Found Start) = level g p ≈F whole g.start
-SaysLevel g p (Found Ramp) = level g p ≈F ramp_level g (t g p)
-SaysLevel g p (Found End) = level g p ≈F whole g.end
+abbrev pub SaysLevel : Grade → Point → Option Piece → Type 0
+SaysLevel g p (Some Start) = level g p ≈F whole g.start
+SaysLevel g p (Some Ramp) = level g p ≈F ramp_level g (t g p)
+SaysLevel g p (Some End) = level g p ≈F whole g.end
 SaysLevel g p None = Unit {0}

@@ -1,6 +1,6 @@
 -- The grade in intervals, in the original's order of operations: lengths are in millimetres and levels plain. What adds is stated of either
 -- arithmetic. Definitions only; assumes nothing.
-use Rattle.std.specs.Prelude.{◌&&◌, List, [], ◌∷◌, ℕ, ℤ, nat_abs, ◌-ℤ◌, ◌*ℤ◌, get_or}
+use Rattle.std.specs.Prelude.{◌&&◌, Option, Some, List, [], ◌∷◌, ℕ, ℤ, nat_abs, ◌-ℤ◌, ◌*ℤ◌, get_or}
 use Rattle.std.specs.Float.{nan}
 use Rattle.std.specs.Float.Ieee.{le}
 use Rattle.interval.specs.declared.Interval.{Interval}
@@ -11,11 +11,8 @@ use Rattle.grade.specs.declared.Linear.{Linear}
 use Rattle.grade.specs.declared.GradeDef.{GradeDef}
 use Rattle.grade.specs.declared.LinearIntervals.{LinearIntervals}
 use Rattle.grade.specs.declared.GradeIntervals.{GradeIntervals}
-use Rattle.grade.specs.declared.LevelKind.{LevelKind}
 use Rattle.grade.specs.declared.Piece.{Piece}
 use Rattle.grade.specs.declared.Piece.TheVariants.{Start, Ramp, End}
-use Rattle.grade.specs.declared.PieceAnswer.{PieceAnswer}
-use Rattle.grade.specs.declared.PieceAnswer.TheVariants.{Found}
 use Rattle.limits.specs.Ticks.{at}
 use Rattle.grade.specs.Exact.{chosen}
 
@@ -44,12 +41,9 @@ zero = point (b64 0)
 abbrev pub zeros : List Interval
 zeros = zero ∷ zero ∷ zero ∷ []
 
-abbrev gradient_by : LevelKind → LinearIntervals → List Interval
-gradient_by LevelKind.Constant g = zeros
-gradient_by LevelKind.Linear g = g.slope
-
 unfoldable pub gradient : GradeIntervals → List Interval
-gradient g = gradient_by g.kind g.linear
+gradient (GradeIntervals.Constant c) = zeros
+gradient (GradeIntervals.Linear g) = g.slope
 
 unfoldable pub piece_gradient : GradeIntervals → Piece → List Interval
 piece_gradient g Start = zeros
@@ -57,7 +51,7 @@ piece_gradient g Ramp = gradient g
 piece_gradient g End = zeros
 
 -- ---- the piece, by the ends of t
-unfoldable pub piece_of : Interval → PieceAnswer
+unfoldable pub piece_of : Interval → Option Piece
 piece_of t = chosen (le t.hi (b64 0)) (le (b64 0x3ff0_0000_0000_0000) t.lo) (le (b64 0) t.lo && le t.hi (b64 0x3ff0_0000_0000_0000))
 
 -- ---- what adds
@@ -74,7 +68,8 @@ module _ (ar : Arithmetic) where
   }
 
   unfoldable pub grade_intervals : GradeDef → GradeIntervals
-  grade_intervals g = record { kind = g.kind; linear = linear_intervals g.linear }
+  grade_intervals (GradeDef.Constant c) = GradeIntervals.Constant (unit c)
+  grade_intervals (GradeDef.Linear g) = GradeIntervals.Linear (linear_intervals g)
 
   -- ---- t over a box
   unfoldable pub along_axis : LinearIntervals → ℕ → Interval → Interval
@@ -92,24 +87,15 @@ module _ (ar : Arithmetic) where
   unfoldable pub level_of : LinearIntervals → Interval → Interval
   level_of g t = sum ar g.start (product t g.rise)
 
-  abbrev interval_by : LevelKind → LinearIntervals → List Interval → Interval
-  interval_by LevelKind.Constant g w = g.start
-  interval_by LevelKind.Linear g w = level_of g (clamp01 (parameter g w))
-
   unfoldable pub interval : GradeIntervals → List Interval → Interval
-  interval g w = interval_by g.kind g.linear w
-
-  abbrev affine_by : LevelKind → LinearIntervals → List Interval → Interval
-  affine_by LevelKind.Constant g w = g.start
-  affine_by LevelKind.Linear g w = level_of g (parameter g w)
+  interval (GradeIntervals.Constant c) w = c
+  interval (GradeIntervals.Linear g) w = level_of g (clamp01 (parameter g w))
 
   unfoldable pub affine : GradeIntervals → List Interval → Interval
-  affine g w = affine_by g.kind g.linear w
+  affine (GradeIntervals.Constant c) w = c
+  affine (GradeIntervals.Linear g) w = level_of g (parameter g w)
 
   -- ---- the piece
-  abbrev piece_by : LevelKind → LinearIntervals → List Interval → PieceAnswer
-  piece_by LevelKind.Constant g w = Found Start
-  piece_by LevelKind.Linear g w = piece_of (parameter g w)
-
-  unfoldable pub piece : GradeIntervals → List Interval → PieceAnswer
-  piece g w = piece_by g.kind g.linear w
+  unfoldable pub piece : GradeIntervals → List Interval → Option Piece
+  piece (GradeIntervals.Constant c) w = Some Start
+  piece (GradeIntervals.Linear g) w = piece_of (parameter g w)

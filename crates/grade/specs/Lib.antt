@@ -1,6 +1,7 @@
 -- The grade layer's definitions, in the order of document 01. Assumes nothing.
 pub mod Grade
 pub mod Exact
+pub mod Pieces
 pub mod Refusals
 pub mod Certified
 pub mod Intervals

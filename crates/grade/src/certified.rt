@@ -1,159 +1,126 @@
 // The axis along which the anchors differ, the anchor planes, the slope, and what certification refuses.
 ghost use Rattle.std.specs.Prelude.{◌≡◌};
-ghost use Rattle.exact.specs.Within.{Within};
-ghost use Rattle.grade.specs.Certified.{only, axis_of, is_one, axis, def_axis, planes, size, distance, rise, slope_bound, ending, linear_certification, certification};
+ghost use Rattle.limits.specs.Refusals.{number_of};
+ghost use Rattle.grade.specs.Certified.{axis, def_axis, linear_planes, planes, distance, rise, slope_bound, ending, linear_certification, certification};
 ghost use Rattle.grade.specs.Fits.{LinearFits, DefFits};
 
-use crate::entries::equal;
-use crate::{AnchorAxis, GradeDef, LevelKind, Linear, Planes, Slope};
-use limits::refusals::{or_else, refused};
-
-// Whether the first alone is not 0.
-fn only(a: i64, b: i64, c: i64) -> bool
-    ensures { result ≡ only a b c }
-{
-    !equal(a, 0) & equal(b, 0) & equal(c, 0)
-}
-
-fn size(x: i64) -> i64
-    requires { Within 2097152 x }
-    ensures { result ≡ size x }
-{
-    if x < 0 { -x } else { x }
-}
+use crate::{GradeDef, Linear, Planes, Slope};
+use limits::refusals::{Refusal, refuse};
 
 // An end of a certified linear level.
 fn ending(x: i64) -> bool
     ensures { result ≡ ending x }
 {
-    (Linear::ENDS[0] <= x) & (x <= Linear::ENDS[1])
-}
-
-fn axis_of(x: bool, y: bool, z: bool) -> AnchorAxis
-    ensures { result ≡ axis_of x y z }
-{
-    if x {
-        return AnchorAxis::One(0);
-    }
-    if y {
-        return AnchorAxis::One(1);
-    }
-    if z {
-        return AnchorAxis::One(2);
-    }
-    AnchorAxis::None
-}
-
-impl AnchorAxis {
-    pub fn is_one(self) -> bool
-        ensures { result ≡ is_one self }
-    {
-        match self {
-            AnchorAxis::One(_) => true,
-            AnchorAxis::None => false,
-        }
-    }
+    (Linear::ENDS[0]..=Linear::ENDS[1]).contains(&x)
 }
 
 impl Linear {
-    // The least and the greatest end of a certified linear level.
+    // The least and the greatest end of a certified linear level, as `Grade::COUNTS` of a level's counts.
     pub const ENDS: [i64; 2] = [-256, 256];
 
-    pub fn axis(self) -> AnchorAxis
-        ensures { result ≡ axis self }
+    // The one axis along which the anchors differ.
+    #[tactic(auto, unfolding(crate::specs::Certified::axis))]
+    pub fn axis(&self) -> Option<usize>
+        ensures { result ≡ axis self.now }
     {
-        let d = self.direction;
-        axis_of(
-            only(d[0], d[1], d[2]),
-            only(d[1], d[2], d[0]),
-            only(d[2], d[0], d[1]),
-        )
+        match self.direction {
+            [0, 0, 0] => None,
+            [_, 0, 0] => Some(0),
+            [0, _, 0] => Some(1),
+            [0, 0, _] => Some(2),
+            _ => None,
+        }
+    }
+
+    #[tactic(auto, using(crate::proofs::AxisLaws::linear_axis_one))]
+    pub fn planes(&self) -> Option<Planes>
+        requires { LinearFits self.now }
+        ensures { result ≡ linear_planes self.now }
+    {
+        let axis = self.axis()?;
+        let from = self.from[axis];
+        Some(Planes {
+            axis,
+            from,
+            to: from + self.direction[axis],
+        })
     }
 
     // The anchor distance in ticks, of anchors that differ along one axis.
-    pub fn distance(self) -> i64
-        requires { LinearFits self }
-        ensures { result ≡ distance self }
+    #[tactic(auto, unfolding(crate::specs::Certified::distance))]
+    pub fn distance(&self) -> i64
+        requires { LinearFits self.now }
+        ensures { result ≡ distance self.now }
     {
         let d = self.direction;
-        size(d[0]) + size(d[1]) + size(d[2])
+        d[0].abs() + d[1].abs() + d[2].abs()
     }
 
-    pub fn rise(self) -> i64
-        requires { LinearFits self }
-        ensures { result ≡ rise self }
+    #[tactic(auto, unfolding(crate::specs::Certified::rise))]
+    pub fn rise(&self) -> i64
+        requires { LinearFits self.now }
+        ensures { result ≡ rise self.now }
     {
-        size(self.end - self.start)
+        (self.end - self.start).abs()
     }
 
-    // 0, or the number of the refusal.
-    pub fn check_certified(self) -> u32
-        requires { LinearFits self }
-        ensures { result ≡ linear_certification self }
+    pub fn check_certified(&self) -> Result<(), Refusal>
+        requires { LinearFits self.now }
+        ensures { number_of result ≡ linear_certification self.now }
     {
-        let axis = refused(!self.axis().is_one(), 4);
-        let ends = refused(!(ending(self.start) & ending(self.end)), 5);
-        let steep = refused(self.distance() < 10 * self.rise(), 5);
-        or_else(axis, or_else(ends, steep))
+        refuse(self.axis().is_none(), Refusal::Axes)?;
+        refuse(!(ending(self.start) & ending(self.end)), Refusal::Slope)?;
+        refuse(self.distance() < 10 * self.rise(), Refusal::Slope)
     }
 }
 
 impl GradeDef {
-    pub fn axis(self) -> AnchorAxis
-        ensures { result ≡ def_axis self }
+    #[tactic(auto, unfolding(crate::specs::Certified::def_axis))]
+    pub fn axis(&self) -> Option<usize>
+        ensures { result ≡ def_axis self.now }
     {
-        let kind = self.kind;
-        let linear = self.linear;
-        match kind {
-            LevelKind::Constant => AnchorAxis::None,
-            LevelKind::Linear => linear.axis(),
+        match self {
+            GradeDef::Constant(_) => None,
+            GradeDef::Linear(linear) => linear.axis(),
         }
     }
 
-    pub fn planes(self) -> Planes
-        requires { DefFits self }
-        ensures { result ≡ planes self }
+    #[tactic(auto, unfolding(crate::specs::Certified::planes))]
+    pub fn planes(&self) -> Option<Planes>
+        requires { DefFits self.now }
+        ensures { result ≡ planes self.now }
     {
-        let linear = self.linear;
-        let from = linear.from;
-        let d = linear.direction;
-        let AnchorAxis::One(i) = self.axis() else {
-            return Planes::None;
-        };
-        Planes::Found {
-            axis: i,
-            from: from[i],
-            to: from[i] + d[i],
+        match self {
+            GradeDef::Constant(_) => None,
+            GradeDef::Linear(linear) => linear.planes(),
         }
     }
 
-    pub fn slope_bound(self) -> Slope
-        requires { DefFits self }
-        ensures { result ≡ slope_bound self }
+    #[tactic(auto, unfolding(crate::specs::Certified::slope_bound))]
+    pub fn slope_bound(&self) -> Slope
+        requires { DefFits self.now }
+        ensures { result ≡ slope_bound self.now }
     {
-        let kind = self.kind;
-        let linear = self.linear;
-        match kind {
-            LevelKind::Constant => Slope {
+        match self {
+            GradeDef::Constant(_) => Slope {
                 rise: 0,
                 distance: 1,
             },
-            LevelKind::Linear => Slope {
+            GradeDef::Linear(linear) => Slope {
                 rise: linear.rise(),
                 distance: linear.distance(),
             },
         }
     }
 
-    pub fn check_certified(self) -> u32
-        requires { DefFits self }
-        ensures { result ≡ certification self }
+    #[tactic(auto, unfolding(crate::specs::Certified::certification))]
+    pub fn check_certified(&self) -> Result<(), Refusal>
+        requires { DefFits self.now }
+        ensures { number_of result ≡ certification self.now }
     {
-        let kind = self.kind;
-        let linear = self.linear;
-        match kind {
-            LevelKind::Constant => 0,
-            LevelKind::Linear => linear.check_certified(),
+        match self {
+            GradeDef::Constant(_) => Ok(()),
+            GradeDef::Linear(linear) => linear.check_certified(),
         }
     }
 }

@@ -1,71 +1,53 @@
-// The compiled grade: a level kind beside the linear level's numbers, by value.
+// The compiled grade: a constant, or the linear level's numbers.
 ghost use Rattle.std.specs.Prelude.{◌≡◌};
-ghost use Rattle.grade.specs.Grade.{in_limits};
-ghost use Rattle.grade.specs.Exact.{constant_def, compiled, range, exact_piece};
+ghost use Rattle.grade.specs.declared.GradeDef.{GradeDef};
+ghost use Rattle.grade.specs.Exact.{compiled, range, exact_piece};
 ghost use Rattle.grade.specs.Fits.{Within3, InLimits, DefFits};
 
-use crate::entries::equal;
-use crate::{Bounds, Grade, GradeDef, LevelKind, Linear, Piece, PieceAnswer};
+use crate::{Bounds, Grade, GradeDef, Linear, Piece};
 
 impl GradeDef {
     pub fn constant(level: i64) -> GradeDef
-        ensures { result ≡ constant_def level }
+        ensures { result ≡ GradeDef.Constant level }
     {
-        let linear = Linear {
-            from: [0, 0, 0],
-            direction: [0, 0, 0],
-            length_sq: 1,
-            start: level,
-            end: level,
-        };
-        GradeDef {
-            kind: LevelKind::Constant,
-            linear,
-        }
+        GradeDef::Constant(level)
     }
 
     // A grade that no refusal stopped. Equal start and end become a constant.
+    #[tactic(auto, unfolding(crate::specs::Exact::compiled))]
     pub fn compile(g: Grade) -> GradeDef
         requires { InLimits g }
         ensures { result ≡ compiled g }
     {
-        if equal(g.kind, 1) & !equal(g.start, g.end) {
-            let from = g.from;
-            let to = g.to;
-            let linear = Linear::new(from, to, g.start, g.end);
-            return GradeDef {
-                kind: LevelKind::Linear,
-                linear,
-            };
+        if g.is_linear() & (g.start != g.end) {
+            return GradeDef::Linear(Linear::new(g.from, g.to, g.start, g.end));
         }
         GradeDef::constant(g.start)
     }
 
-    pub fn range(self, lo: [i64; 3], hi: [i64; 3]) -> Bounds
-        requires { DefFits self × (Within3 1048576 lo × Within3 1048576 hi) }
-        ensures { result ≡ range self lo hi }
+    #[tactic(auto, unfolding(crate::specs::Exact::range))]
+    pub fn range(&self, lo: [i64; 3], hi: [i64; 3]) -> Bounds
+        requires { DefFits self.now × (Within3 1048576 lo × Within3 1048576 hi) }
+        ensures { result ≡ range self.now lo hi }
     {
-        let kind = self.kind;
-        let linear = self.linear;
-        match kind {
-            LevelKind::Constant => Bounds {
-                low: linear.start,
-                high: linear.start,
+        match self {
+            GradeDef::Constant(level) => Bounds {
+                low: *level,
+                high: *level,
                 over: 1,
             },
-            LevelKind::Linear => linear.range(lo, hi),
+            GradeDef::Linear(linear) => linear.range(lo, hi),
         }
     }
 
-    pub fn exact_piece(self, lo: [i64; 3], hi: [i64; 3]) -> PieceAnswer
-        requires { DefFits self × (Within3 1048576 lo × Within3 1048576 hi) }
-        ensures { result ≡ exact_piece self lo hi }
+    #[tactic(auto, unfolding(crate::specs::Exact::exact_piece))]
+    pub fn exact_piece(&self, lo: [i64; 3], hi: [i64; 3]) -> Option<Piece>
+        requires { DefFits self.now × (Within3 1048576 lo × Within3 1048576 hi) }
+        ensures { result ≡ exact_piece self.now lo hi }
     {
-        let kind = self.kind;
-        let linear = self.linear;
-        match kind {
-            LevelKind::Constant => PieceAnswer::Found(Piece::Start),
-            LevelKind::Linear => linear.exact_piece(lo, hi),
+        match self {
+            GradeDef::Constant(_) => Some(Piece::Start),
+            GradeDef::Linear(linear) => linear.exact_piece(lo, hi),
         }
     }
 }

@@ -1,43 +1,31 @@
-// Which entries of a level document 01 admits, its refusal 1; and how entries compare.
+// Which entries of a level document 01 admits, its refusal 1.
 ghost use Rattle.std.specs.Prelude.{◌≡◌};
-ghost use Rattle.grade.specs.Grade.{count, in_limits, eq_z};
-ghost use Rattle.grade.specs.Refusals.{same};
+ghost use Rattle.grade.specs.Grade.{kind, count, in_limits};
 
 use crate::Grade;
 use limits::ticks::ticks;
 
+// The kinds are 0 constant, 1 linear and 2 distance.
+fn kind(x: i64) -> bool
+    ensures { result ≡ kind x }
+{
+    (0..=2).contains(&x)
+}
+
 pub fn count(x: i64) -> bool
     ensures { result ≡ count x }
 {
-    (Grade::COUNTS[0] <= x) & (x <= Grade::COUNTS[1])
-}
-
-pub fn equal(a: i64, b: i64) -> bool
-    ensures { result ≡ eq_z a b }
-{
-    a == b
-}
-
-pub fn same(a: [i64; 3], b: [i64; 3]) -> bool
-    ensures { result ≡ same a b }
-{
-    equal(a[0], b[0]) & equal(a[1], b[1]) & equal(a[2], b[2])
+    (Grade::COUNTS[0]..=Grade::COUNTS[1]).contains(&x)
 }
 
 impl Grade {
-    // The least and the greatest of a level.
+    // The least and the greatest of a level, under the one name that docs/PROOFS.md gives.
     pub const COUNTS: [i64; 2] = [-4096, 4096];
 
+    #[tactic(auto, unfolding(crate::specs::Grade::in_limits))]
     pub fn in_limits(self) -> bool
         ensures { result ≡ in_limits self }
     {
-        let from = self.from;
-        let to = self.to;
-        (0 <= self.kind)
-            & (self.kind <= 2)
-            & ticks(from)
-            & ticks(to)
-            & count(self.start)
-            & count(self.end)
+        kind(self.kind) & ticks(self.from) & ticks(self.to) & count(self.start) & count(self.end)
     }
 }

@@ -2,9 +2,9 @@
 ghost use Rattle.std.specs.Prelude.{◌≡◌};
 ghost use Rattle.exact.specs.Within.{Within};
 ghost use Rattle.grade.specs.Fits.{LinearFits, DefFits};
-ghost use Rattle.grade.specs.Fast.{near, clamp, fast_along, linear_fast, fast};
+ghost use Rattle.grade.specs.Fast.{near, fast_along, linear_fast, fast};
 
-use crate::{GradeDef, LevelKind, Linear};
+use crate::{GradeDef, Linear};
 use interval::nearest::nearest;
 
 // Ticks in millimetres, and level counts as levels.
@@ -15,18 +15,6 @@ fn near(z: i64) -> f64
     nearest(z, 1024)
 }
 
-fn clamp(t: f64) -> f64
-    ensures { result ≡ clamp t }
-{
-    if t < 0.0 {
-        return 0.0;
-    }
-    if 1.0 < t {
-        return 1.0;
-    }
-    t
-}
-
 fn fast_along(x: f64, from: i64, d: i64) -> f64
     requires { Within 2097152 from × Within 2097152 d }
     ensures { result ≡ fast_along x from d }
@@ -35,31 +23,30 @@ fn fast_along(x: f64, from: i64, d: i64) -> f64
 }
 
 impl Linear {
-    pub fn fast(self, p: [f64; 3]) -> f64
-        requires { LinearFits self }
-        ensures { result ≡ linear_fast self p }
+    // The axes are written out: by `from_fn` the check does not find the equation.
+    #[tactic(auto, unfolding(crate::specs::Fast::linear_fast))]
+    pub fn fast(&self, p: [f64; 3]) -> f64
+        requires { LinearFits self.now }
+        ensures { result ≡ linear_fast self.now p }
     {
-        let from = self.from;
-        let d = self.direction;
-        let x = fast_along(p[0], from[0], d[0]);
-        let y = fast_along(p[1], from[1], d[1]);
-        let z = fast_along(p[2], from[2], d[2]);
-        let t = clamp((x + y + z) / nearest(self.length_sq, 1048576));
+        let x = fast_along(p[0], self.from[0], self.direction[0]);
+        let y = fast_along(p[1], self.from[1], self.direction[1]);
+        let z = fast_along(p[2], self.from[2], self.direction[2]);
+        let t = ((x + y + z) / nearest(self.length_sq, 1048576)).clamp(0.0, 1.0);
         let start = near(self.start);
         start + t * (near(self.end) - start)
     }
 }
 
 impl GradeDef {
-    pub fn fast(self, p: [f64; 3]) -> f64
-        requires { DefFits self }
-        ensures { result ≡ fast self p }
+    #[tactic(auto, unfolding(crate::specs::Fast::fast))]
+    pub fn fast(&self, p: [f64; 3]) -> f64
+        requires { DefFits self.now }
+        ensures { result ≡ fast self.now p }
     {
-        let kind = self.kind;
-        let linear = self.linear;
-        match kind {
-            LevelKind::Constant => near(linear.start),
-            LevelKind::Linear => linear.fast(p),
+        match self {
+            GradeDef::Constant(level) => near(*level),
+            GradeDef::Linear(linear) => linear.fast(p),
         }
     }
 }

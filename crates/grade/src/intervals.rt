@@ -1,14 +1,13 @@
-// The grade in intervals, in the original's order of operations. Its constants are made once, by `intervals`.
+// The grade in intervals, in the original's order of operations. Its constants are made once, by `intervals`. `#[inline(always)]` stands on
+// what a walk asks of a ramp for each box, as on gyroid's functions of a box, which called one by one make it slower.
 ghost use Rattle.std.specs.Prelude.{◌≡◌, ◌<◌};
 ghost use Rattle.exact.specs.Within.{Within};
-ghost use Rattle.interval.specs.Interval.{product, quotient};
-ghost use Rattle.grade.specs.InUse.{sum, difference};
 ghost use Rattle.grade.specs.Fits.{Within3, LinearFits, DefFits};
-ghost use Rattle.grade.specs.Intervals.{unit, units, slope_along, slopes, zero, zeros, gradient, piece_gradient, piece_of};
+ghost use Rattle.grade.specs.Intervals.{unit, units, slope_along, slopes, zeros, gradient, piece_gradient, piece_of};
 ghost use Rattle.grade.specs.FunctionsInUse.{linear_intervals, grade_intervals, along_axis, parameter_of, parameter, level_of, interval, affine, piece};
 
 use crate::ramp::chosen;
-use crate::{GradeDef, GradeIntervals, LevelKind, Linear, LinearIntervals, Piece, PieceAnswer};
+use crate::{GradeDef, GradeIntervals, Linear, LinearIntervals, Piece};
 use interval::Interval;
 
 // Ticks in millimetres, and level counts as levels.
@@ -19,106 +18,88 @@ fn unit(z: i64) -> Interval
     Interval::from_rational(z, 1024)
 }
 
+// One by one: by `map` the check does not find that each entry keeps the bound that `unit` asks.
 fn units(v: [i64; 3]) -> [Interval; 3]
     requires { Within3 2097152 v }
     ensures { result ≡ units v }
 {
-    let x = unit(v[0]);
-    let y = unit(v[1]);
-    let z = unit(v[2]);
-    [x, y, z]
+    [unit(v[0]), unit(v[1]), unit(v[2])]
 }
 
 impl Linear {
     // The gradient along an axis on which the anchors differ by d.
-    fn slope_along(self, d: i64) -> Interval
-        requires { LinearFits self × Within 2097152 d }
-        ensures { result ≡ slope_along self d }
+    fn slope_along(&self, d: i64) -> Interval
+        requires { LinearFits self.now × Within 2097152 d }
+        ensures { result ≡ slope_along self.now d }
     {
         Interval::from_rational(d * (self.end - self.start), self.length_sq as u64)
     }
 
-    fn slopes(self) -> [Interval; 3]
-        requires { LinearFits self }
-        ensures { result ≡ slopes self }
+    // One by one, as `units`: by `map` the check does not find that each entry keeps the bound that `slope_along` asks.
+    fn slopes(&self) -> [Interval; 3]
+        requires { LinearFits self.now }
+        ensures { result ≡ slopes self.now }
     {
         let d = self.direction;
-        let x = self.slope_along(d[0]);
-        let y = self.slope_along(d[1]);
-        let z = self.slope_along(d[2]);
-        [x, y, z]
+        [
+            self.slope_along(d[0]),
+            self.slope_along(d[1]),
+            self.slope_along(d[2]),
+        ]
     }
 
-    pub fn intervals(self) -> LinearIntervals
-        requires { LinearFits self }
-        ensures { result ≡ linear_intervals self }
+    #[tactic(auto, unfolding(crate::specs::Intervals::linear_intervals))]
+    pub fn intervals(&self) -> LinearIntervals
+        requires { LinearFits self.now }
+        ensures { result ≡ linear_intervals self.now }
     {
-        let from = self.from;
-        let direction = self.direction;
         let start = unit(self.start);
         LinearIntervals {
-            from: units(from),
-            direction: units(direction),
+            from: units(self.from),
+            direction: units(self.direction),
             length_sq: Interval::from_rational(self.length_sq, 1048576),
             start,
-            rise: unit(self.end).sub(start),
+            rise: unit(self.end) - start,
             slope: self.slopes(),
         }
     }
 }
 
 impl GradeDef {
-    pub fn intervals(self) -> GradeIntervals
-        requires { DefFits self }
-        ensures { result ≡ grade_intervals self }
+    #[tactic(auto, unfolding(crate::specs::Intervals::grade_intervals))]
+    pub fn intervals(&self) -> GradeIntervals
+        requires { DefFits self.now }
+        ensures { result ≡ grade_intervals self.now }
     {
-        let kind = self.kind;
-        let linear = self.linear;
-        GradeIntervals {
-            kind,
-            linear: linear.intervals(),
+        match self {
+            GradeDef::Constant(level) => GradeIntervals::Constant(unit(*level)),
+            GradeDef::Linear(linear) => GradeIntervals::Linear(linear.intervals()),
         }
     }
 }
 
-// (x − from)·direction on one axis, of its entries.
-pub fn along(x: Interval, from: Interval, direction: Interval) -> Interval
-    ensures { result ≡ product (difference x from) direction }
-{
-    x.sub(from).mul(direction)
-}
-
-// The shares of t added, over the squared length.
-pub fn divided(x: Interval, y: Interval, z: Interval, length: Interval) -> Interval
-    ensures { result ≡ quotient (sum (sum (sum zero x) y) z) length }
-{
-    Interval::point(0.0).add(x).add(y).add(z).div(length)
-}
-
-pub fn risen(start: Interval, rise: Interval, t: Interval) -> Interval
-    ensures { result ≡ sum start (product t rise) }
-{
-    start.add(t.mul(rise))
-}
-
-// What is worked out takes the entries that it needs: so no call copies all of a level's numbers.
 impl LinearIntervals {
-    pub fn along_axis(self, i: usize, x: Interval) -> Interval
+    // (x − from)·direction on one axis.
+    #[tactic(auto, unfolding(crate::specs::Intervals::along_axis))]
+    pub fn along_axis(&self, i: usize, x: Interval) -> Interval
         requires { i < 3 }
-        ensures { result ≡ along_axis self i x }
+        ensures { result ≡ along_axis self.now i x }
     {
-        along(x, self.from[i], self.direction[i])
+        (x - self.from[i]) * self.direction[i]
     }
 
     // t, from its share of each axis.
-    pub fn parameter_of(self, x: Interval, y: Interval, z: Interval) -> Interval
-        ensures { result ≡ parameter_of self x y z }
+    #[tactic(auto, unfolding(crate::specs::Intervals::parameter_of))]
+    #[inline(always)]
+    pub fn parameter_of(&self, x: Interval, y: Interval, z: Interval) -> Interval
+        ensures { result ≡ parameter_of self.now x y z }
     {
-        divided(x, y, z, self.length_sq)
+        (Interval::point(0.0) + x + y + z) / self.length_sq
     }
 
-    pub fn interval_parameter(self, w: [Interval; 3]) -> Interval
-        ensures { result ≡ parameter self w }
+    #[tactic(auto, unfolding(crate::specs::Intervals::parameter))]
+    pub fn interval_parameter(&self, w: [Interval; 3]) -> Interval
+        ensures { result ≡ parameter self.now w }
     {
         let x = self.along_axis(0, w[0]);
         let y = self.along_axis(1, w[1]);
@@ -127,14 +108,17 @@ impl LinearIntervals {
     }
 
     // start + t (end − start).
-    pub fn level_of(self, t: Interval) -> Interval
-        ensures { result ≡ level_of self t }
+    #[tactic(auto, unfolding(crate::specs::Intervals::level_of))]
+    #[inline(always)]
+    pub fn level_of(&self, t: Interval) -> Interval
+        ensures { result ≡ level_of self.now t }
     {
-        risen(self.start, self.rise, t)
+        self.start + t * self.rise
     }
 }
 
-pub fn piece_of(t: Interval) -> PieceAnswer
+#[tactic(auto, unfolding(crate::specs::Intervals::piece_of))]
+pub fn piece_of(t: Interval) -> Option<Piece>
     ensures { result ≡ piece_of t }
 {
     chosen(t.hi <= 0.0, 1.0 <= t.lo, (0.0 <= t.lo) & (t.hi <= 1.0))
@@ -143,66 +127,62 @@ pub fn piece_of(t: Interval) -> PieceAnswer
 pub fn zeros() -> [Interval; 3]
     ensures { result ≡ zeros }
 {
-    let z = Interval::point(0.0);
-    [z, z, z]
+    [Interval::point(0.0); 3]
 }
 
 impl GradeIntervals {
     // The level over a box, held between its ends.
-    pub fn interval(self, w: [Interval; 3]) -> Interval
-        ensures { result ≡ interval self w }
+    #[tactic(auto, unfolding(crate::specs::Intervals::interval))]
+    pub fn interval(&self, w: [Interval; 3]) -> Interval
+        ensures { result ≡ interval self.now w }
     {
-        let kind = self.kind;
-        let linear = self.linear;
-        match kind {
-            LevelKind::Constant => linear.start,
-            LevelKind::Linear => linear.level_of(linear.interval_parameter(w).clamp01()),
+        match self {
+            GradeIntervals::Constant(level) => *level,
+            GradeIntervals::Linear(linear) => linear.level_of(
+                linear.interval_parameter(w).clamp01(),
+            ),
         }
     }
 
     // The level's affine extension, not held.
-    pub fn affine(self, w: [Interval; 3]) -> Interval
-        ensures { result ≡ affine self w }
+    #[tactic(auto, unfolding(crate::specs::Intervals::affine))]
+    pub fn affine(&self, w: [Interval; 3]) -> Interval
+        ensures { result ≡ affine self.now w }
     {
-        let kind = self.kind;
-        let linear = self.linear;
-        match kind {
-            LevelKind::Constant => linear.start,
-            LevelKind::Linear => linear.level_of(linear.interval_parameter(w)),
+        match self {
+            GradeIntervals::Constant(level) => *level,
+            GradeIntervals::Linear(linear) => linear.level_of(linear.interval_parameter(w)),
         }
     }
 
     // The gradient of the affine extension.
-    pub fn gradient(self) -> [Interval; 3]
-        ensures { result ≡ gradient self }
+    #[tactic(auto, unfolding(crate::specs::Intervals::gradient))]
+    pub fn gradient(&self) -> [Interval; 3]
+        ensures { result ≡ gradient self.now }
     {
-        let kind = self.kind;
-        let linear = self.linear;
-        let slope = linear.slope;
-        match kind {
-            LevelKind::Constant => zeros(),
-            LevelKind::Linear => slope,
+        match self {
+            GradeIntervals::Constant(_) => zeros(),
+            GradeIntervals::Linear(linear) => linear.slope,
         }
     }
 
-    pub fn piece_gradient(self, piece: Piece) -> [Interval; 3]
-        ensures { result ≡ piece_gradient self piece }
+    #[tactic(auto, unfolding(crate::specs::Intervals::piece_gradient))]
+    pub fn piece_gradient(&self, piece: Piece) -> [Interval; 3]
+        ensures { result ≡ piece_gradient self.now piece }
     {
         match piece {
-            Piece::Start => zeros(),
             Piece::Ramp => self.gradient(),
-            Piece::End => zeros(),
+            Piece::Start | Piece::End => zeros(),
         }
     }
 
-    pub fn piece(self, w: [Interval; 3]) -> PieceAnswer
-        ensures { result ≡ piece self w }
+    #[tactic(auto, unfolding(crate::specs::Intervals::piece))]
+    pub fn piece(&self, w: [Interval; 3]) -> Option<Piece>
+        ensures { result ≡ piece self.now w }
     {
-        let kind = self.kind;
-        let linear = self.linear;
-        match kind {
-            LevelKind::Constant => PieceAnswer::Found(Piece::Start),
-            LevelKind::Linear => piece_of(linear.interval_parameter(w)),
+        match self {
+            GradeIntervals::Constant(_) => Some(Piece::Start),
+            GradeIntervals::Linear(linear) => piece_of(linear.interval_parameter(w)),
         }
     }
 }

@@ -3,7 +3,7 @@
 // rational point of a box.
 #![tactic(auto)]
 
-pub mod entries; // which entries of a level document 01 admits, and how entries compare
+pub mod entries; // which entries of a level document 01 admits
 mod refusals; // what document 01's table refuses of a level
 mod vector; // whole-number vectors of three
 mod ramp; // the linear level's exact answers
@@ -11,12 +11,14 @@ mod compiled; // the compiled grade and its exact answers
 mod certified; // axis, planes, slope, and what certification refuses
 pub mod intervals; // the grade in intervals, its constants kept
 mod fast; // the grade in doubles
+pub mod pieces; // the pieces by number
 pub mod range; // the public call
 
 use interval::Interval;
 
-// A level as a description enters it, in whole ticks and level counts. Kind 0 is constant, 1 linear, 2 distance.
-#[derive(Clone, Copy)]
+// A level as a description enters it, in whole ticks and level counts. Kind 0 is constant, 1 linear, 2 distance; it stays a number,
+// since a public call takes any and refuses another by its own number.
+#[derive(Clone, Copy, Debug, PartialEq, Eq)]
 pub struct Grade {
     pub kind: i64,
     pub from: [i64; 3],
@@ -25,14 +27,9 @@ pub struct Grade {
     pub end: i64,
 }
 
-#[derive(Clone, Copy)]
-pub enum LevelKind {
-    Constant,
-    Linear,
-}
-
-// The linear level's numbers: its direction is to − from, and length_sq that one's square.
-#[derive(Clone, Copy)]
+// The linear level's numbers: its direction is to − from, and length_sq that one's square. Their sizes (`LinearFits`) are no part of the
+// type: `Linear::new`, and the definition `linear_of` that it equals, take any ends, and anchors that may be one point.
+#[derive(Clone, Copy, Debug, PartialEq, Eq)]
 pub struct Linear {
     pub from: [i64; 3],
     pub direction: [i64; 3],
@@ -41,51 +38,39 @@ pub struct Linear {
     pub end: i64,
 }
 
-// A compiled grade. Of a constant, `linear` holds its level as `start` and `end`.
-#[derive(Clone, Copy)]
-pub struct GradeDef {
-    pub kind: LevelKind,
-    pub linear: Linear,
+// A compiled grade. That its numbers keep their sizes (`DefFits`) is no part of the type either: `constant` takes any level.
+#[derive(Clone, Copy, Debug, PartialEq, Eq)]
+pub enum GradeDef {
+    Constant(i64),
+    Linear(Linear),
 }
 
 // Two numerators over one denominator, in level counts, never reduced.
-#[derive(Clone, Copy)]
+#[derive(Clone, Copy, Debug, PartialEq, Eq)]
 pub struct Bounds {
     pub low: i64,
     pub high: i64,
     pub over: i64,
 }
 
-// The piece of a linear level that holds over a whole box.
-#[derive(Clone, Copy)]
+// The piece of a linear level that holds over a whole box, with document 01's number of it.
+#[derive(Clone, Copy, Debug, PartialEq, Eq)]
 pub enum Piece {
-    Start, // the start's value, at or before the start plane
-    Ramp, // between the planes
-    End, // the end's value, at or beyond the end plane
+    Start = 0, // the start's value, at or before the start plane
+    Ramp = 1, // between the planes
+    End = 2, // the end's value, at or beyond the end plane
 }
 
-#[derive(Clone, Copy)]
-pub enum PieceAnswer {
-    Found(Piece),
-    None,
-}
-
-// The one axis along which the anchors differ.
-#[derive(Clone, Copy)]
-pub enum AnchorAxis {
-    One(usize),
-    None,
-}
-
-// The axis, and the positions of `from` and `to` on it in ticks.
-#[derive(Clone, Copy)]
-pub enum Planes {
-    Found { axis: usize, from: i64, to: i64 },
-    None,
+// The axis along which the anchors differ, and the positions of `from` and `to` on it in ticks. The documents give the axis as a number.
+#[derive(Clone, Copy, Debug, PartialEq, Eq)]
+pub struct Planes {
+    pub axis: usize,
+    pub from: i64,
+    pub to: i64,
 }
 
 // |end − start| in level counts over the anchor distance in ticks; 0 over 1 for a constant.
-#[derive(Clone, Copy)]
+#[derive(Clone, Copy, Debug, PartialEq, Eq)]
 pub struct Slope {
     pub rise: i64,
     pub distance: i64,
@@ -93,7 +78,7 @@ pub struct Slope {
 
 // The linear level's numbers as intervals, in millimetres and plain levels, with rise = end − start and slope its gradient: made once,
 // so that nothing is divided again for each box but by length_sq.
-#[derive(Clone, Copy)]
+#[derive(Clone, Copy, Debug, PartialEq)]
 pub struct LinearIntervals {
     pub from: [Interval; 3],
     pub direction: [Interval; 3],
@@ -103,15 +88,9 @@ pub struct LinearIntervals {
     pub slope: [Interval; 3],
 }
 
-#[derive(Clone, Copy)]
-pub struct GradeIntervals {
-    pub kind: LevelKind,
-    pub linear: LinearIntervals,
-}
-
-// What `grade_range` answers: document 01's number, or the bounds.
-#[derive(Clone, Copy)]
-pub enum RangeAnswer {
-    Refused(u32),
-    Found(Bounds),
+// A compiled grade's constants as intervals.
+#[derive(Clone, Copy, Debug, PartialEq)]
+pub enum GradeIntervals {
+    Constant(Interval),
+    Linear(LinearIntervals),
 }

@@ -2,16 +2,13 @@
 ghost use Rattle.std.specs.Prelude.{◌≡◌};
 ghost use Rattle.grade.specs.Calls.{range_said, range_call, AnswerHolds};
 
-use crate::{Grade, GradeDef, RangeAnswer};
+use crate::{Bounds, Grade, GradeDef};
+use limits::refusals::Refusal;
 
-pub fn grade_range(grade: Grade, lo: [i64; 3], hi: [i64; 3]) -> RangeAnswer
+pub fn grade_range(grade: Grade, lo: [i64; 3], hi: [i64; 3]) -> Result<Bounds, Refusal>
     ensures answer { range_said result ≡ range_call grade lo hi }
     ensures holds { AnswerHolds grade lo hi result }
 {
-    let number = grade.range_refusal(lo, hi);
-    if number != 0 {
-        return RangeAnswer::Refused(number);
-    }
-    let compiled = GradeDef::compile(grade);
-    RangeAnswer::Found(compiled.range(lo, hi))
+    grade.range_refusal(lo, hi)?;
+    Ok(GradeDef::compile(grade).range(lo, hi))
 }

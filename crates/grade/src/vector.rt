@@ -1,9 +1,11 @@
-// Whole-number vectors of three: the anchors, their difference, the corners of a box.
+// Whole-number vectors of three: the anchors, their difference, the corners of a box. The axes are written out: by `from_fn` the check does
+// not find the equation of `least_corner`, and a difference or a product of three is no plainer another way.
 ghost use Rattle.std.specs.Prelude.{◌≡◌};
 ghost use Rattle.grade.specs.Grade.{minus, dot};
 ghost use Rattle.grade.specs.Exact.{least_end, least_corner};
 ghost use Rattle.grade.specs.Fits.{Within3};
 
+#[tactic(auto, using(crate::proofs::Sizes::difference_is), unfolding(crate::specs::Grade::minus))]
 pub fn minus(a: [i64; 3], b: [i64; 3]) -> [i64; 3]
     requires { Within3 1048576 a × Within3 1048576 b }
     ensures { result ≡ minus a b }
@@ -11,6 +13,7 @@ pub fn minus(a: [i64; 3], b: [i64; 3]) -> [i64; 3]
     [a[0] - b[0], a[1] - b[1], a[2] - b[2]]
 }
 
+#[tactic(auto, using(crate::proofs::Sizes::times_fit, crate::proofs::Sizes::two_fit, crate::proofs::Sizes::three_fit, crate::proofs::Sizes::dot_is))]
 pub fn dot(a: [i64; 3], b: [i64; 3]) -> i64
     requires { Within3 2097152 a × Within3 2097152 b }
     ensures { result ≡ dot a b }

@@ -16,7 +16,7 @@ use Rattle.interval.specs.Floor.{quarter_number}
 use Rattle.grade.specs.Grade as grade
 use Rattle.limits.specs.Ticks.{at, ticks}
 use Rattle.grade.specs.Grade.{minus, dot, Point, along, t, level}
-use Rattle.grade.specs.Exact.{linear_of, constant_def, compiled}
+use Rattle.grade.specs.Exact.{linear_of, compiled}
 use Rattle.grade.specs.Certified.{axis, distance, rise, linear_certification, certification}
 use Rattle.grade.specs.Holds.{InBox, AtTick}
 use Rattle.grade.proofs.Axes.{three}
@@ -48,7 +48,7 @@ abbrev highs : List ℤ
 highs = pos 751 ∷ pos 1502 ∷ negsuc 738 ∷ []
 
 accepted : Accepted network × Accepted primitive
-unfolding refusal in_limits frame_in_limits part_frame grade.in_limits minus dot linear_of constant_def compiled axis distance rise linear_certification certification
+unfolding refusal in_limits frame_in_limits part_frame grade.in_limits minus dot linear_of compiled axis distance rise linear_certification certification
 accepted = (record { none = refl }, record { none = refl })
 
 limits : T (ticks lows) × T (ticks highs)

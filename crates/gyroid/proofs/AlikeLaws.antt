@@ -2,7 +2,7 @@
 -- for bit, in either arithmetic. All that is taken of an end goes into a product, which steps and so forgets the sign of a zero, or through a test:
 -- a middle, a difference and a radius keep the value alone. Assumes nothing.
 use mathlib.Core.Path.{◌≡◌, refl, sym, ap, ◌∙◌}
-use mathlib.Core.Bool.{Bool, true, false, cond, not, ◌&&◌}
+use mathlib.Core.Bool.{cond, not, ◌&&◌}
 use mathlib.Core.List.{List}
 use Prim.Native.Nat.{ℕ, suc, ◌+◌, ◌^◌, ◌≤◌, ◌<◌}
 use native.Mathlib.Omega.{arith}
@@ -10,6 +10,7 @@ use lib.Dec.{T, leb, leb→le, lit<, lit≤}
 use lib.IntN.{ℤ, nat_abs, ◌+ℤ◌}
 use lib.Ieee.{Float, neg}
 use lib.Ieee.Scale.{finite}
+use Rattle.std.specs.Prelude.{Option, Some, None, option_map}
 use Rattle.exact.specs.Fraction.{Fraction, ◌≤F◌, ◌≈F◌}
 use Rattle.exact.specs.Within.{Within}
 use Rattle.exact.proofs.Size.{within_add}
@@ -25,9 +26,7 @@ use Rattle.interval.proofs.Encloses.{sub_encloses, square_is}
 use Rattle.interval.proofs.Bounds.{magnitude_small}
 use Rattle.interval.proofs.Exact.{binary, exact_small, mid_exact}
 use Rattle.interval.proofs.Alike.{Alike, le_alike, alike_le, Same, same_alike, SameEnds, same, same_ends, sub_same, mul_same}
-use Rattle.grade.specs.declared.LevelKind.{LevelKind}
 use Rattle.grade.specs.declared.Piece.{Piece}
-use Rattle.grade.specs.declared.PieceAnswer.{PieceAnswer}
 use Rattle.grade.specs.declared.Piece.TheVariants.{Start, Ramp, End}
 use Rattle.limits.specs.Ticks.{at, ticks}
 use Rattle.grade.specs.Exact.{compiled}
@@ -41,21 +40,19 @@ use Rattle.grade.proofs.AlikeLaws.{SameBox, interval_same, affine_same, piece_sa
 use Rattle.gyroid.specs.declared.Surface.{Surface}
 use Rattle.gyroid.specs.declared.Description.{Description}
 use Rattle.gyroid.specs.declared.Jet.{Jet}
-use Rattle.gyroid.specs.declared.Residual.{Residual}
-use Rattle.gyroid.specs.declared.Residual.TheVariants.{None}
-use Rattle.gyroid.specs.declared.Turn.{Turn}
+use Rattle.gyroid.specs.declared.Circle.{Circle}
 use Rattle.gyroid.specs.Fits.{Accepted}
 use Rattle.gyroid.specs.Refusals.{ends_within, greatest_double, all_finite}
 use Rattle.gyroid.specs.Leaf.{turns, leaf}
 use Rattle.gyroid.specs.Turn.{symmetric, turn}
 use Rattle.gyroid.specs.Jet.{waves_of, waves, jet_of, jet, minus}
-use Rattle.gyroid.specs.Residual.{centre, radius, radii, reach, spread, bracket_at, second_order, bound, held, expanded, expansion}
-use Rattle.gyroid.specs.Residual.{level_at, less_level, residual_on, residual_by, residual, state_of, box_state}
+use Rattle.gyroid.specs.Residual.{centre, radius, radii, reach, spread, bracket_at, second_order, bound, expanded, expansion}
+use Rattle.gyroid.specs.Residual.{level_at, less_level, residual_on, residual, state_of, box_state}
 use Rattle.gyroid.specs.Admitted.{tick_box}
 use Rattle.grade.specs.Holds.{AtTick, OfTicks}
 use Rattle.gyroid.proofs.AcceptedLaws.{Passed, accepted}
 use Rattle.gyroid.proofs.CentreLaws.{over_binary, tick_exact}
-use Rattle.gyroid.proofs.JetLaws.{turns_in, jet_holds}
+use Rattle.gyroid.proofs.JetLaws.{JetIn, JetHolds, turns_in, jet_holds}
 use Rattle.gyroid.proofs.ChosenLaws.{chosen}
 
 -- ---- ends
@@ -188,10 +185,10 @@ module _
     -- ---- the jet at the centre, the radii
     jet_same : jet ar (leaf ar d) (centre w) ≡ jet ar (leaf ar d) (centre v)
     unfolding jet waves leaf
-    jet_same = λ k. jet_of ar (leaf ar d).surface
-        (waves_of (at_turn (turn_same 0 (lit< tt) k)) (at_turn (turn_same 1 (lit< tt) k)) (at_turn (turn_same 2 (lit< tt) k))) (leaf ar d).wave
+    jet_same = λ k. option_map (jet_of ar (leaf ar d).surface (leaf ar d).wave)
+        (waves_of (at_turn (turn_same 0 (lit< tt) k)) (at_turn (turn_same 1 (lit< tt) k)) (at_turn (turn_same 2 (lit< tt) k)))
       where
-        at_turn : Interval → Turn
+        at_turn : Interval → Option Circle
         at_turn t = turn ar (leaf ar d) t
 
     radius_same : (i : ℕ) → i < 3 → Same 13 (radius ar (box_at w i)) (radius ar (box_at v i))
@@ -210,43 +207,39 @@ module _
 
     -- ---- the first-order term, of products of a size and a radius. The gradient that is found is at most 2 ^ 100 in size, and so is the slope
     module _ (level : Interval) (slope : List Interval) {s : ℕ → Fraction} (slope_in : (i : ℕ) → i < 3 → In 100 (s i) (box_at slope i)) where
-      abbrev j : Jet
-      j = jet ar (leaf ar d) (centre v)
+      module _ {x : Fraction} {g : ℕ → Fraction} (j : Jet) (found : JetIn j x g) where
+        steep_small : (i : ℕ) → i < 3 → Small 102 (magnitude (box_at (minus ar j.gradient slope) i))
+        unfolding minus
+        steep_small = three (λ i. Small 102 (magnitude (box_at (minus ar j.gradient slope) i))) (entry 0 (lit< tt)) (entry 1 (lit< tt)) (entry 2 (lit< tt))
+          where
+            entry : (i : ℕ) → i < 3 → Small 102 (magnitude (difference ar (box_at j.gradient i) (box_at slope i)))
+            entry i b = magnitude_small (sub_encloses ar tt (found.gradient i b) (slope_in i b))
 
-      steep_small : T j.found → (i : ℕ) → i < 3 → Small 102 (magnitude (box_at (minus ar j.gradient slope) i))
-      unfolding minus
-      steep_small t = three (λ i. Small 102 (magnitude (box_at (minus ar j.gradient slope) i))) (entry 0 (lit< tt)) (entry 1 (lit< tt)) (entry 2 (lit< tt))
+        spread_same : spread ar (minus ar j.gradient slope) (radii ar w) ≡ spread ar (minus ar j.gradient slope) (radii ar v)
+        unfolding spread reach
+        spread_same = cc (reached 0 (lit< tt), reached 1 (lit< tt), reached 2 (lit< tt))
+          where
+            reached : (i : ℕ) → i < 3 → reach (box_at (minus ar j.gradient slope) i) (box_at (radii ar w) i)
+                ≡ reach (box_at (minus ar j.gradient slope) i) (box_at (radii ar v) i)
+            reached i b = mul_same {j = 102} (point_same (same (magnitude (box_at (minus ar j.gradient slope) i)) (steep_small i b))) (radii_same i b)
+
+      expanded_same : (q : Interval) (x : Fraction) (g : ℕ → Fraction) (j : Option Jet) → JetHolds j x g
+          → option_map (expanded ar q level slope (radii ar w)) j ≡ option_map (expanded ar q level slope (radii ar v)) j
+      unfolding bound
+      expanded_same q x g None found = refl
+      expanded_same q x g (Some j) found = ap about (spread_same j found)
         where
-          entry : (i : ℕ) → i < 3 → Small 102 (magnitude (difference ar (box_at j.gradient i) (box_at slope i)))
-          entry i b = magnitude_small (sub_encloses ar tt ((jet_holds ar d passed.above lo hi low-in high-in (chosen d lo hi)).gradient t i b) (slope_in i b))
-
-      spread_same : T j.found → spread ar (minus ar j.gradient slope) (radii ar w) ≡ spread ar (minus ar j.gradient slope) (radii ar v)
-      unfolding spread reach
-      spread_same t = cc (reached 0 (lit< tt), reached 1 (lit< tt), reached 2 (lit< tt))
-        where
-          reached : (i : ℕ) → i < 3 → reach (box_at (minus ar j.gradient slope) i) (box_at (radii ar w) i)
-              ≡ reach (box_at (minus ar j.gradient slope) i) (box_at (radii ar v) i)
-          reached i b = mul_same {j = 102} (point_same (same (magnitude (box_at (minus ar j.gradient slope) i)) (steep_small t i b))) (radii_same i b)
-
-      expanded_same : (q : Interval) → expanded ar q j level slope (radii ar w) ≡ expanded ar q j level slope (radii ar v)
-      unfolding expanded bound
-      expanded_same q = go j.found (λ t. t)
-        where
-          about : Interval → Residual
-          about y = held (sum ar (difference ar j.value level) (symmetric (sum ar y q).hi))
-
-          go : (b : Bool) → (T b → T j.found) → cond (not b) None (about (spread ar (minus ar j.gradient slope) (radii ar w)))
-              ≡ cond (not b) None (about (spread ar (minus ar j.gradient slope) (radii ar v)))
-          go false t = refl
-          go true t = ap about (spread_same (t tt))
+          about : Interval → Option Interval
+          about y = Some (sum ar (difference ar j.value level) (symmetric (sum ar y q).hi))
 
       expansion_same : expansion ar (leaf ar d) w level slope ≡ expansion ar (leaf ar d) v level slope
       unfolding expansion
       expansion_same =
           (λ k. cond (not (finite_same k)) None
-          (expanded ar (second_same (leaf ar d).surface (leaf ar d).wave_squared k) (jet_same k) level slope (radii ar w)))
-          ∙ ap (λ (r : Residual). cond (not (all_finite v)) None r)
-          (expanded_same (second_order ar (leaf ar d).surface (leaf ar d).wave_squared (radii ar v)))
+          (option_map (expanded ar (second_same (leaf ar d).surface (leaf ar d).wave_squared k) level slope (radii ar w)) (jet_same k)))
+          ∙ ap (λ (r : Option Interval). cond (not (all_finite v)) None r)
+          (expanded_same (second_order ar (leaf ar d).surface (leaf ar d).wave_squared (radii ar v)) _ _ (jet ar (leaf ar d) (centre v))
+          (jet_holds ar d passed.above lo hi low-in high-in (chosen d lo hi)))
 
     -- ---- the residual
     flat_same : (level : Interval) → expansion ar (leaf ar d) w level zeros ≡ expansion ar (leaf ar d) v level zeros
@@ -272,19 +265,15 @@ module _
     unfolding leaf
     which_same = piece_same ar (compiled d.level) passed.fits w v box_same
 
-    on_same : (a : PieceAnswer) → residual_on ar a (leaf ar d) w ≡ residual_on ar a (leaf ar d) v
-    on_same (PieceAnswer.Found p) =
+    on_same : (a : Option Piece) → residual_on ar a (leaf ar d) w ≡ residual_on ar a (leaf ar d) v
+    on_same (Some p) =
         ap (λ (l : Interval). expansion ar (leaf ar d) w l (piece_gradient (leaf ar d).intervals p)) (level_same p)
         ∙ sloped_same p (level_at ar (leaf ar d).intervals p (centre v))
-    on_same PieceAnswer.None = λ k. less_level ar (flat_same zero k) (range_same k)
+    on_same None = λ k. less_level ar (flat_same zero k) (range_same k)
 
     same_residual : residual ar (leaf ar d) w ≡ residual ar (leaf ar d) v
     unfolding residual
-    same_residual = go (leaf ar d).intervals.kind
-      where
-        go : (k : LevelKind) → residual_by ar k (leaf ar d) w ≡ residual_by ar k (leaf ar d) v
-        go LevelKind.Constant = flat_same (leaf ar d).interval_level
-        go LevelKind.Linear = on_same (piece ar (leaf ar d).intervals w) ∙ ap (λ (a : PieceAnswer). residual_on ar a (leaf ar d) v) which_same
+    same_residual = on_same (piece ar (leaf ar d).intervals w) ∙ ap (λ (a : Option Piece). residual_on ar a (leaf ar d) v) which_same
 
 -- ---- THE LAW
 module _

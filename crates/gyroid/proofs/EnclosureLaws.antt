@@ -6,11 +6,13 @@ use mathlib.Core.List.{List, [], ◌∷◌}
 use Prim.Native.Nat.{ℕ, ◌<◌}
 use lib.Dec.{T, lit<}
 use lib.IntN.{ℤ}
-use lib.Ieee.{Float, lt}
+use lib.Ieee.{lt}
+use Rattle.std.specs.Prelude.{Option, Some, None}
 use Rattle.exact.specs.Fraction.{Fraction, ◌+F◌, ◌-F◌, ◌*F◌, ◌≈F◌}
 use Rattle.exact.proofs.Ring.{◌⊕◌, ◌⊗◌}
 use Rattle.exact.proofs.FractionRing.{ring_f}
 use Rattle.exact.proofs.Fraction.{≈F_refl, ≈F_trans, add_cong_f, sub_cong_f, mul_cong_f}
+use Rattle.interval.specs.declared.Interval.{Interval}
 use Rattle.interval.specs.Step.{b64}
 use Rattle.interval.specs.Interval.{Arithmetic}
 use Rattle.interval.proofs.Membership.{In, wider, above_zero, below_zero}
@@ -23,7 +25,6 @@ use Rattle.grade.specs.Extended.{in_units}
 use Rattle.grade.proofs.EntryLaws.{ticks_within}
 use Rattle.grade.proofs.Axes.{three}
 use Rattle.gyroid.specs.declared.Description.{Description}
-use Rattle.gyroid.specs.declared.Residual.{Residual}
 use Rattle.gyroid.specs.declared.State.{State}
 use Rattle.gyroid.specs.Fits.{Accepted}
 use Rattle.gyroid.specs.Leaf.{leaf}
@@ -97,21 +98,21 @@ module _ (ar : Arithmetic) where
     residual_holds = go (residual ar (leaf ar d) (tick_box lo hi))
         (λ p inside h. admitted_has d (accepted d none.none).0 lo hi (ticks_within lo low-ticks) (ticks_within hi high-ticks) h p inside)
       where
-        go : (r : Residual) → ((p : Point) → InBox lo hi p → (h : Chosen d lo hi) → Has r (admitted d lo hi h p)) → Holds d lo hi r
-        go (Residual.Enclosure l u) f = f
-        go Residual.None f = tt
+        go : (r : Option Interval) → ((p : Point) → InBox lo hi p → (h : Chosen d lo hi) → Has r (admitted d lo hi h p)) → Holds d lo hi r
+        go (Some v) f = f
+        go None f = tt
 
     -- and so the two signs
     pub state_settles : Settles d lo hi (box_state ar (leaf ar d) (tick_box lo hi))
     unfolding box_state
     state_settles = go (residual ar (leaf ar d) (tick_box lo hi)) residual_holds
       where
-        by_sign : (l u : Float) → Holds d lo hi (Residual.Enclosure l u) → (a b : Bool) → (T a → T (lt (b64 0) l)) → (T b → T (lt u (b64 0)))
+        by_sign : (v : Interval) → Holds d lo hi (Some v) → (a b : Bool) → (T a → T (lt (b64 0) v.lo)) → (T b → T (lt v.hi (b64 0)))
             → Settles d lo hi (cond a State.Outside (cond b State.Inside State.Unsettled))
-        by_sign l u f true b s t = λ p inside h. above_zero (s tt) (f p inside h)
-        by_sign l u f false true s t = λ p inside h. below_zero (t tt) (f p inside h)
-        by_sign l u f false false s t = tt
+        by_sign v f true b s t = λ p inside h. above_zero (s tt) (f p inside h)
+        by_sign v f false true s t = λ p inside h. below_zero (t tt) (f p inside h)
+        by_sign v f false false s t = tt
 
-        go : (r : Residual) → Holds d lo hi r → Settles d lo hi (state_of r)
-        go (Residual.Enclosure l u) f = by_sign l u f (lt (b64 0) l) (lt u (b64 0)) (λ t. t) (λ t. t)
-        go Residual.None f = tt
+        go : (r : Option Interval) → Holds d lo hi r → Settles d lo hi (state_of r)
+        go (Some v) f = by_sign v f (lt (b64 0) v.lo) (lt v.hi (b64 0)) (λ t. t) (λ t. t)
+        go None f = tt

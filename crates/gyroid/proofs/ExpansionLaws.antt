@@ -3,11 +3,11 @@
 use mathlib.Core.Bool.{Bool, true, false, cond, not}
 use mathlib.Core.List.{List}
 use Prim.Native.Nat.{ℕ, ◌<◌}
-use lib.Dec.{T}
 use lib.IntN.{ℤ}
+use Rattle.std.specs.Prelude.{Option, Some, None, option_map}
 use Rattle.exact.specs.Fraction.{Fraction, ◌-F◌}
 use Rattle.interval.specs.declared.Interval.{Interval}
-use Rattle.interval.specs.Interval.{Arithmetic, sum, difference}
+use Rattle.interval.specs.Interval.{Arithmetic}
 use Rattle.interval.specs.Encloses.{value}
 use Rattle.interval.proofs.Membership.{In, wider}
 use Rattle.grade.specs.Grade.{Point}
@@ -17,11 +17,9 @@ use Rattle.grade.specs.Holds.{InBox}
 use Rattle.grade.specs.Extended.{in_units}
 use Rattle.gyroid.specs.declared.Gyroid.{Gyroid}
 use Rattle.gyroid.specs.declared.Jet.{Jet}
-use Rattle.gyroid.specs.declared.Residual.{Residual}
 use Rattle.gyroid.specs.Refusals.{all_finite}
-use Rattle.gyroid.specs.Turn.{symmetric}
-use Rattle.gyroid.specs.Jet.{minus, jet}
-use Rattle.gyroid.specs.Residual.{centre, radius, radii, spread, second_order, bound, held, expanded, expansion}
+use Rattle.gyroid.specs.Jet.{jet}
+use Rattle.gyroid.specs.Residual.{centre, radius, radii, second_order, bound, expanded, expansion}
 use Rattle.gyroid.specs.Admitted.{centre_at, ends, tick_box}
 use Rattle.gyroid.proofs.CentreLaws.{radii_in, offset_within}
 use Rattle.gyroid.proofs.JetLaws.{JetHolds}
@@ -29,9 +27,9 @@ use Rattle.gyroid.proofs.BracketLaws.{TermHolds}
 use Rattle.gyroid.proofs.SecondOrder.{expanded_at, second_order_lem}
 
 -- a residual that is an enclosure holds a fraction, with a size
-abbrev pub HoldsIn : Residual → Fraction → Type 0
-HoldsIn (Residual.Enclosure lo hi) q = In 133 q (record { lo = lo; hi = hi })
-HoldsIn Residual.None q = Unit {0}
+abbrev pub HoldsIn : Option Interval → Fraction → Type 0
+HoldsIn (Some v) q = In 133 q v
+HoldsIn None q = Unit {0}
 
 module _ (ar : Arithmetic) where
   -- `expansion` holds a surface, less any level l at the centre with any slope s: its value v, its gradient and a term e of second order
@@ -46,7 +44,7 @@ module _ (ar : Arithmetic) where
     abbrev w : List Interval
     w = tick_box lo hi
 
-    abbrev j : Jet
+    abbrev j : Option Jet
     j = jet ar leaf (centre w)
 
     abbrev q : Interval
@@ -56,18 +54,18 @@ module _ (ar : Arithmetic) where
     o i = in_units (p i -F centre_at lo hi i)
 
     pub expansion_holds : JetHolds j v steep → TermHolds q e → Expands leaf w v steep e o
-    unfolding expansion expanded bound
-    expansion_holds at_centre term l s L S level slope = finite (not (all_finite w))
+    unfolding expansion bound
+    expansion_holds at_centre term l s L S level slope = finite (not (all_finite w)) j at_centre
       where
-        about : Residual
-        about = held (sum ar (difference ar j.value L) (symmetric (sum ar (spread ar (minus ar j.gradient S) (radii ar w)) q).hi))
+        about : Option Jet → Option Interval
+        about j = option_map (expanded ar q L S (radii ar w)) j
 
-        found : (b : Bool) → (T b → T j.found) → HoldsIn (cond (not b) Residual.None about) (expanded_at v steep e l s o)
-        found false t = tt
-        found true t = second_order_lem ar v l e term.most steep s o (λ i. value (radius ar (ends lo hi i))) j.value L q j.gradient S (radii ar w)
-            (at_centre.value (t tt)) (at_centre.gradient (t tt)) level slope (λ i b. wider 20 tt (radii_in ar lo hi low-in high-in i b))
+        found : (j : Option Jet) → JetHolds j v steep → HoldsIn (about j) (expanded_at v steep e l s o)
+        found None h = tt
+        found (Some j) h = second_order_lem ar v l e term.most steep s o (λ i. value (radius ar (ends lo hi i))) j.value L q j.gradient S (radii ar w)
+            h.value h.gradient level slope (λ i b. wider 20 tt (radii_in ar lo hi low-in high-in i b))
             (λ i b. offset_within ar lo hi low-in high-in i b p inside) term.holds term.within
 
-        finite : (b : Bool) → HoldsIn (cond b Residual.None (cond (not j.found) Residual.None about)) (expanded_at v steep e l s o)
-        finite true = tt
-        finite false = found j.found (λ t. t)
+        finite : (b : Bool) (j : Option Jet) → JetHolds j v steep → HoldsIn (cond b None (about j)) (expanded_at v steep e l s o)
+        finite true j h = tt
+        finite false j h = found j h

@@ -3,9 +3,10 @@
 use mathlib.Core.List.{List, [], ◌∷◌}
 use Prim.Native.Nat.{ℕ, ◌*◌, ◌^◌, ◌≤◌, ◌<◌}
 use native.Mathlib.Omega.{arith}
-use lib.Dec.{T, lit<}
+use lib.Dec.{lit<}
 use lib.IntN.{ℤ, pos, nat_abs}
 use lib.Signed.{◌<ℤ◌}
+use Rattle.std.specs.Prelude.{Option, Some, None, option_map}
 use Rattle.exact.specs.Fraction.{Fraction, ratio, whole, ◌*F◌, ◌/F◌, ◌≈F◌}
 use Rattle.exact.proofs.Size.{size_above}
 use Rattle.exact.proofs.Ring.{◌⊗◌}
@@ -21,7 +22,8 @@ use Rattle.grade.specs.Fits.{Within3}
 use Rattle.grade.specs.Extended.{in_units}
 use Rattle.grade.proofs.Axes.{three}
 use Rattle.gyroid.specs.declared.Description.{Description}
-use Rattle.gyroid.specs.declared.Turn.{Turn}
+use Rattle.gyroid.specs.declared.Circle.{Circle}
+use Rattle.gyroid.specs.declared.Waves.{Waves}
 use Rattle.gyroid.specs.declared.Jet.{Jet}
 use Rattle.gyroid.specs.declared.Surface.{Surface}
 use Rattle.gyroid.specs.Leaf.{turns, leaf}
@@ -34,9 +36,13 @@ use Rattle.gyroid.proofs.CentreLaws.{centre_in}
 use Rattle.gyroid.proofs.TurnLaws.{Sound, two_pi_in, turn_holds}
 
 -- ---- a jet that is found holds a value and a gradient
-pub record JetHolds (j : Jet) (v : Fraction) (d : ℕ → Fraction) : Type 0 where
-  pub value : T j.found → In 100 v j.value
-  pub gradient : T j.found → (i : ℕ) → i < 3 → In 100 (d i) (box_at j.gradient i)
+pub record JetIn (j : Jet) (v : Fraction) (d : ℕ → Fraction) : Type 0 where
+  pub value : In 100 v j.value
+  pub gradient : (i : ℕ) → i < 3 → In 100 (d i) (box_at j.gradient i)
+
+abbrev pub JetHolds : Option Jet → Fraction → (ℕ → Fraction) → Type 0
+JetHolds (Some j) v d = JetIn j v d
+JetHolds None v d = Unit {0}
 
 -- ---- per millimetre: 1024 / a
 module _ (d : Description) (above : pos 0 <ℤ d.period) where
@@ -89,9 +95,11 @@ module _ (ar : Arithmetic) (d : Description) (above : pos 0 <ℤ d.period) where
 
     -- the value and the gradient of each surface, from the sines and cosines
     module _
-        {sx cx sy cy sz cz : Interval} (X : Sound (Turn.Found sx cx) (waves d lo hi h 0))
-        (Y : Sound (Turn.Found sy cy) (waves d lo hi h 1)) (Z : Sound (Turn.Found sz cz) (waves d lo hi h 2)) where
-      value_holds : (f : Surface) → In 100 (value_of f (s d lo hi h) (c d lo hi h)) (value_at ar f sx cx sy cy sz cz)
+        {x y z : Circle} (X : Sound (Some x) (waves d lo hi h 0)) (Y : Sound (Some y) (waves d lo hi h 1)) (Z : Sound (Some z) (waves d lo hi h 2)) where
+      abbrev at_centre : Waves
+      at_centre = record { x = x; y = y; z = z }
+
+      value_holds : (f : Surface) → In 100 (value_of f (s d lo hi h) (c d lo hi h)) (value_at ar f at_centre)
       unfolding value_at
       value_holds Surface.Network = wider 100 tt (add_encloses ar tt (add_encloses ar tt (mul_encloses tt X.0 Y.1) (mul_encloses tt Y.0 Z.1))
           (mul_encloses tt Z.0 X.1))
@@ -102,7 +110,7 @@ module _ (ar : Arithmetic) (d : Description) (above : pos 0 <ℤ d.period) where
       by_wave t = wider 100 tt (mul_encloses tt t (wave_in h.w_between))
 
       abbrev Entry : Surface → ℕ → Type 0
-      Entry f i = In 100 (factor_of f (s d lo hi h) (c d lo hi h) i *F k) (box_at (gradient_at ar f sx cx sy cy sz cz (leaf ar d).wave) i)
+      Entry f i = In 100 (factor_of f (s d lo hi h) (c d lo hi h) i *F k) (box_at (gradient_at ar f at_centre (leaf ar d).wave) i)
 
       gradient_holds : (f : Surface) (i : ℕ) → i < 3 → Entry f i
       unfolding gradient_at entry_at
@@ -113,22 +121,19 @@ module _ (ar : Arithmetic) (d : Description) (above : pos 0 <ℤ d.period) where
       gradient_holds Surface.Primitive = three (Entry Surface.Primitive)
           (by_wave (wider 80 tt (neg_encloses X.0))) (by_wave (wider 80 tt (neg_encloses Y.0))) (by_wave (wider 80 tt (neg_encloses Z.0)))
 
-    abbrev Found : Turn → Turn → Turn → Type 0
-    Found x y z = JetHolds (jet_of ar (surface d lo hi) (waves_of x y z) (leaf ar d).wave) (g d lo hi h) (λ i. factor d lo hi h i *F k)
+    abbrev Found : Option Circle → Option Circle → Option Circle → Type 0
+    Found x y z = JetHolds (option_map (jet_of ar (surface d lo hi) (leaf ar d).wave) (waves_of x y z)) (g d lo hi h) (λ i. factor d lo hi h i *F k)
 
-    found_holds : (x y z : Turn) → Sound x (waves d lo hi h 0) → Sound y (waves d lo hi h 1) → Sound z (waves d lo hi h 2) → Found x y z
-    found_holds Turn.None y z X Y Z = record { value = λ t. absurd t; gradient = λ t. absurd t }
-    found_holds (Turn.Found sx cx) Turn.None z X Y Z = record { value = λ t. absurd t; gradient = λ t. absurd t }
-    found_holds (Turn.Found sx cx) (Turn.Found sy cy) Turn.None X Y Z = record { value = λ t. absurd t; gradient = λ t. absurd t }
-    found_holds (Turn.Found sx cx) (Turn.Found sy cy) (Turn.Found sz cz) X Y Z = record {
-      value = λ _. value_holds X Y Z (surface d lo hi);
-      gradient = λ _. gradient_holds X Y Z (surface d lo hi);
-    }
+    found_holds : (x y z : Option Circle) → Sound x (waves d lo hi h 0) → Sound y (waves d lo hi h 1) → Sound z (waves d lo hi h 2) → Found x y z
+    found_holds None y z X Y Z = tt
+    found_holds (Some x) None z X Y Z = tt
+    found_holds (Some x) (Some y) None X Y Z = tt
+    found_holds (Some x) (Some y) (Some z) X Y Z = record { value = value_holds X Y Z (surface d lo hi); gradient = gradient_holds X Y Z (surface d lo hi) }
 
     -- THE FACT
     pub jet_holds : JetHolds (jet ar (leaf ar d) (centre (tick_box lo hi))) (g d lo hi h) (λ i. factor d lo hi h i *F k)
     unfolding jet float.waves centre leaf
     jet_holds = found_holds (at 0) (at 1) (at 2) (wave_holds 0 (lit< tt)) (wave_holds 1 (lit< tt)) (wave_holds 2 (lit< tt))
       where
-        at : ℕ → Turn
+        at : ℕ → Option Circle
         at i = turn ar (leaf ar d) (product (point (mid (ends lo hi i))) (turns d))

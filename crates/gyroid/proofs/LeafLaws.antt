@@ -1,5 +1,4 @@
--- The leaf behind a refusal of 0, which is the description's, at the arithmetic in use: what `certified` gives, and the leaf's fields that the layers
--- above read. Assumes nothing.
+-- The leaf of a description, at the arithmetic in use: its fields that the layers above read. Assumes nothing.
 use mathlib.Core.Path.{◌≡◌, refl, ap, ◌∙◌}
 use Prim.Native.Nat.{ℕ, ◌*◌, ◌^◌, ◌≤◌, ◌<◌}
 use native.Mathlib.Omega.{arith}
@@ -9,35 +8,23 @@ use Rattle.interval.specs.Encloses.{Small}
 use Rattle.interval.proofs.DoubleSizes.{nearest_small}
 use Rattle.grade.specs.Exact.{compiled}
 use Rattle.gyroid.specs.declared.Description.{Description}
-use Rattle.gyroid.specs.declared.Compiled.{Compiled}
 use Rattle.gyroid.specs.declared.Gyroid.{Gyroid}
-use Rattle.gyroid.specs.Refusals.{refusal}
 use Rattle.gyroid.specs.Leaf
 use Rattle.gyroid.specs.Leaf.{surface_of}
-use Rattle.gyroid.specs.Constructors
 use Rattle.gyroid.specs.InUse.{leaf}
-use Rattle.gyroid.specs.FunctionsInUse.{certified}
 use Rattle.gyroid.proofs.AcceptedLaws.{Passed}
 
--- ---- what `certified` gave
-pub number_is : (d : Description) {m : Compiled} → m ≡ certified d → m.refusal ≡ refusal d
-unfolding Constructors.certified
-number_is d e = ap (λ (c : Compiled). c.refusal) e
-
-pub leaf_is : (d : Description) {m : Compiled} → m ≡ certified d → refusal d ≡ 0 → m.leaf ≡ leaf d
-unfolding Constructors.certified
-leaf_is d e z = ap (λ (c : Compiled). c.leaf) e ∙ rw z refl
-
-pub surface_is : (d : Description) {m : Compiled} → m ≡ certified d → refusal d ≡ 0 → m.leaf.surface ≡ surface_of d.kind
+-- ---- what `certified` gave: its contract says that it is the description's leaf
+pub surface_is : (d : Description) {g : Gyroid} → g ≡ leaf d → g.surface ≡ surface_of d.kind
 unfolding Leaf.leaf
-surface_is d e z = ap (λ (g : Gyroid). g.surface) (leaf_is d e z)
+surface_is d e = ap (λ (g : Gyroid). g.surface) e
 
 pub leaf_grade : (d : Description) → (leaf d).grade ≡ compiled d.level
 unfolding Leaf.leaf
 leaf_grade d = refl
 
-pub grade_is : (d : Description) {m : Compiled} → m ≡ certified d → refusal d ≡ 0 → m.leaf.grade ≡ compiled d.level
-grade_is d e z = ap (λ (g : Gyroid). g.grade) (leaf_is d e z) ∙ leaf_grade d
+pub grade_is : (d : Description) {g : Gyroid} → g ≡ leaf d → g.grade ≡ compiled d.level
+grade_is d e = ap (λ (g : Gyroid). g.grade) e ∙ leaf_grade d
 
 -- ---- 1/a in doubles
 pub turns_small : (d : Description) → Passed d → Small 10 (leaf d).fast_turns

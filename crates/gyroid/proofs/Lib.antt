@@ -20,9 +20,6 @@ pub mod PartLaws
 -- boxes with an infinite end, and boxes with a zero of either sign
 pub mod InfiniteLaws
 pub mod AlikeLaws
--- parts in lent numbers, and the state that a lent leaf gives a box
-pub mod NumberLaws
-pub mod LentLaws
 -- a side's radius, and the second-order term, by spans
 pub mod SpanLaws
 -- exact sums stay narrow: what the residual is made of, and the residual, lie in the wide ones

@@ -10,9 +10,9 @@ use Rattle.interval.specs.Interval.{exact_sum, exact_difference, sum, difference
 use Rattle.interval.specs.Nearest.{from_rational}
 use Rattle.interval.specs.Floor.{quarter_number}
 use Rattle.grade.specs.Grade as grade
-use Rattle.grade.specs.Exact.{linear_of, constant_def, compiled}
+use Rattle.grade.specs.Exact.{linear_of, compiled}
 use Rattle.grade.specs.Certified.{certification}
-use Rattle.grade.specs.Intervals.{grade_intervals}
+use Rattle.grade.specs.Intervals.{grade_intervals, interval, piece, piece_gradient}
 use Rattle.grade.specs.InUse.{in_use}
 use Rattle.gyroid.specs.declared.Description.{Description}
 use Rattle.gyroid.specs.declared.State.{State}
@@ -20,9 +20,9 @@ use Rattle.gyroid.specs.Description.{in_limits, frame_in_limits, part_frame, ori
 use Rattle.gyroid.specs.Refusals.{refusal, all_finite}
 use Rattle.gyroid.specs.Fits.{Accepted}
 use Rattle.gyroid.specs.Leaf.{leaf}
-use Rattle.gyroid.specs.Turn.{reduced, horner, sine_at, cosine_at, turned, turn}
+use Rattle.gyroid.specs.Turn.{reduced, horner, sine_at, cosine_at, circle_at, turned, turn}
 use Rattle.gyroid.specs.Jet.{waves, value_at, entry_at, gradient_at, jet, minus}
-use Rattle.gyroid.specs.Residual.{centre, radius, radii, reach, spread, bracket_at, second_order, bound, expanded, expansion, residual, box_state}
+use Rattle.gyroid.specs.Residual.{centre, radius, radii, reach, spread, bracket_at, second_order, bound, expansion, residual, box_state}
 use Rattle.gyroid.specs.Admitted.{tick_box}
 use Rattle.gyroid.specs.Settles.{Some}
 use Rattle.gyroid.proofs.ChosenLaws.{inside_some, outside_some}
@@ -37,7 +37,7 @@ description = record {
 }
 
 accepted : Accepted description
-unfolding refusal in_limits frame_in_limits part_frame grade.in_limits linear_of constant_def compiled certification
+unfolding refusal in_limits frame_in_limits part_frame grade.in_limits linear_of compiled certification
 accepted = record { none = refl }
 
 -- a corner of a cube
@@ -49,8 +49,9 @@ mark low high = box_state in_use (leaf in_use description) (tick_box (corner low
 
 marks : (mark (pos 0) (pos 64) ≡ State.Outside) × (mark (pos 480) (pos 544) ≡ State.Inside) × (mark (pos 224) (pos 288) ≡ State.Unsettled)
 unfolding of_bits to_bits is_nan neg add sub mul div lt le round up_from next_up next_down ◌+F◌ ◌-F◌ exact_sum exact_difference sum difference product quotient
-    negation square mid magnitude from_rational quarter_number constant_def compiled grade_intervals leaf all_finite reduced horner sine_at cosine_at turned
-    turn waves value_at entry_at gradient_at jet minus centre radius radii reach spread bracket_at second_order bound expanded expansion residual box_state
+    negation square mid magnitude from_rational quarter_number compiled grade_intervals leaf all_finite reduced horner sine_at cosine_at circle_at turned
+    turn waves value_at entry_at gradient_at jet minus centre radius radii reach spread bracket_at second_order bound expansion residual box_state
+    interval piece piece_gradient
 marks = (refl, refl, refl)
 
 above_zero : Some description (corner (pos 0)) (corner (pos 64)) (λ (x : Fraction). zero_f <F x)

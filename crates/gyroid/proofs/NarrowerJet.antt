@@ -8,6 +8,7 @@ use lib.IntN.{ℤ, pos}
 use lib.Signed.{le_z_yes, ◌<ℤ◌}
 use lib.Ieee.{Float, neg, lt, of_bits}
 use lib.Ieee.Scale.{finite}
+use Rattle.std.specs.Prelude.{Option, Some, None, option_map}
 use Rattle.exact.specs.Fraction.{Fraction, zero_f, ◌≤F◌}
 use Rattle.exact.proofs.Fraction.{≤F_refl, ≤F_trans, <F_irrefl, num_nonneg}
 use Rattle.exact.proofs.FractionSize.{abs_of_nonneg}
@@ -31,10 +32,11 @@ use Rattle.grade.proofs.Axes.{three}
 use Rattle.grade.proofs.EntryLaws.{not_either}
 use Rattle.gyroid.specs.declared.Description.{Description}
 use Rattle.gyroid.specs.declared.Surface.{Surface}
-use Rattle.gyroid.specs.declared.Turn.{Turn}
+use Rattle.gyroid.specs.declared.Circle.{Circle}
+use Rattle.gyroid.specs.declared.Waves.{Waves}
 use Rattle.gyroid.specs.declared.Jet.{Jet}
 use Rattle.gyroid.specs.Leaf.{turns, wave, leaf, surface_of}
-use Rattle.gyroid.specs.Turn.{turn, turned, reducible, reduced, beyond, horner, symmetric, sine_at, cosine_at}
+use Rattle.gyroid.specs.Turn.{turn, turned, reducible, reduced, beyond, horner, symmetric, sine_at, cosine_at, circle_at}
 use Rattle.gyroid.specs.Jet.{waves_of, waves, value_at, entry_at, gradient_at, jet_of, jet}
 use Rattle.gyroid.specs.Residual.{centre}
 use Rattle.gyroid.specs.Admitted.{ends, tick_box}
@@ -86,19 +88,23 @@ module _ {U W : Interval} (h : Nested 35 U W) (near : T (not (beyond W))) where
   }
 
 -- ---- a turn that lies in another: where that one is found, so is it
-abbrev TurnNested : Turn → Turn → Type 0
-TurnNested t Turn.None = Unit {0}
-TurnNested Turn.None (Turn.Found s c) = ⊥
-TurnNested (Turn.Found s c) (Turn.Found s' c') = Nested 36 s s' × Nested 36 c c'
+abbrev TurnNested : Option Circle → Option Circle → Type 0
+TurnNested t None = Unit {0}
+TurnNested None (Some r) = ⊥
+TurnNested (Some r) (Some r') = Nested 36 r.sine r'.sine × Nested 36 r.cosine r'.cosine
 
-turned_nested : (n : ℕ) {s s' c c' : Interval} → Nested 36 s s' → Nested 36 c c' → TurnNested (turned n s c) (turned n s' c')
+turned_nested : (n : ℕ) {r r' : Circle} → Nested 36 r.sine r'.sine → Nested 36 r.cosine r'.cosine → TurnNested (Some (turned n r)) (Some (turned n r'))
 unfolding turned
-turned_nested n {s} {s'} {c} {c'} h k = go (eqb n 0) (eqb n 1) (eqb n 2)
+turned_nested n {r} {r'} h k = go (eqb n 0) (eqb n 1) (eqb n 2)
   where
-    by : Bool → Bool → Bool → Interval → Interval → Turn
-    by x y z s c = cond x (Turn.Found s c) (cond y (Turn.Found c (negation s)) (cond z (Turn.Found (negation s) (negation c)) (Turn.Found (negation c) s)))
+    by : Bool → Bool → Bool → Circle → Circle
+    by x y z c =
+        cond x c
+        (cond y (record { sine = c.cosine; cosine = negation c.sine })
+        (cond z (record { sine = negation c.sine; cosine = negation c.cosine })
+        (record { sine = negation c.cosine; cosine = c.sine })))
 
-    go : (x y z : Bool) → TurnNested (by x y z s c) (by x y z s' c')
+    go : (x y z : Bool) → TurnNested (Some (by x y z r)) (Some (by x y z r'))
     go true y z = (h, k)
     go false true z = (k, negation_nested h)
     go false false true = (negation_nested h, negation_nested k)
@@ -143,25 +149,29 @@ module _ (ar : Arithmetic) where
           (itself (tail_sized 18 (num_nonneg (le_z_yes tt)))))
 
     turn_nested : TurnNested (turn ar (leaf ar d) I) (turn Wide (leaf Wide d) I)
-    unfolding turn leaf
+    unfolding turn circle_at leaf
     turn_nested = go (not (reducible I)) (beyond (U ar)) (beyond (U Wide)) (still_near reduced_nested)
         (λ near. turned_nested (mod_four q) (sine_nested near) (cosine_nested near))
       where
-        found : Arithmetic → Turn
-        found a = turned (mod_four q) (sine_at a (leaf a d) (U a)) (cosine_at a (leaf a d) (U a))
+        found : Arithmetic → Option Circle
+        found a = Some (turned (mod_four q) (circle_at a (leaf a d) (U a)))
 
         go : (x y z : Bool) → (T (not z) → T (not y)) → (T (not z) → TurnNested (found ar) (found Wide))
-            → TurnNested (cond x Turn.None (cond y Turn.None (found ar))) (cond x Turn.None (cond z Turn.None (found Wide)))
+            → TurnNested (cond x None (cond y None (found ar))) (cond x None (cond z None (found Wide)))
         go true y z n t = tt
         go false y true n t = tt
         go false true false n t = absurd (n tt)
         go false false false n t = t tt
 
--- ---- the jet
-pub record JetNested (j j' : Jet) : Type 0 where
-  pub found : T j'.found → T j.found
-  pub value : T j'.found → Nested 100 j.value j'.value
-  pub gradient : T j'.found → (i : ℕ) → i < 3 → Nested 100 (box_at j.gradient i) (box_at j'.gradient i)
+-- ---- a jet that lies in another: where that one is found, so is it
+pub record JetLies (j j' : Jet) : Type 0 where
+  pub value : Nested 100 j.value j'.value
+  pub gradient : (i : ℕ) → i < 3 → Nested 100 (box_at j.gradient i) (box_at j'.gradient i)
+
+abbrev pub JetNested : Option Jet → Option Jet → Type 0
+JetNested j None = Unit {0}
+JetNested None (Some j) = ⊥
+JetNested (Some j) (Some j') = JetLies j j'
 
 pub wave_sized : (d : Description) → pos 0 <ℤ d.period → Sized 15 (wave d)
 wave_sized d above = sized (mul_encloses tt (low_end two_pi_sized) (turns_in d above))
@@ -169,9 +179,14 @@ wave_sized d above = sized (mul_encloses tt (low_end two_pi_sized) (turns_in d a
 module _ (ar : Arithmetic) (d : Description) (above : pos 0 <ℤ d.period) where
   -- the value and the gradient of each surface, from the sines and cosines
   module _
-      {sx cx sy cy sz cz sx' cx' sy' cy' sz' cz' : Interval} (X : TurnNested (Turn.Found sx cx) (Turn.Found sx' cx'))
-      (Y : TurnNested (Turn.Found sy cy) (Turn.Found sy' cy')) (Z : TurnNested (Turn.Found sz cz) (Turn.Found sz' cz')) where
-    value_nested : (f : Surface) → Nested 100 (value_at ar f sx cx sy cy sz cz) (value_at Wide f sx' cx' sy' cy' sz' cz')
+      {x y z x' y' z' : Circle} (X : TurnNested (Some x) (Some x')) (Y : TurnNested (Some y) (Some y')) (Z : TurnNested (Some z) (Some z')) where
+    abbrev narrow : Waves
+    narrow = record { x = x; y = y; z = z }
+
+    abbrev wide : Waves
+    wide = record { x = x'; y = y'; z = z' }
+
+    value_nested : (f : Surface) → Nested 100 (value_at ar f narrow) (value_at Wide f wide)
     unfolding value_at
     value_nested Surface.Network = looser 100 tt (sum_nested ar tt (sum_nested ar tt (product_nested tt X.0 Y.1) (product_nested tt Y.0 Z.1))
         (product_nested tt Z.0 X.1))
@@ -187,7 +202,7 @@ module _ (ar : Arithmetic) (d : Description) (above : pos 0 <ℤ d.period) where
     across a b c e = looser 80 tt (difference_nested ar tt (product_nested tt a b) (product_nested tt c e))
 
     abbrev Entry : Surface → ℕ → Type 0
-    Entry f i = Nested 100 (box_at (gradient_at ar f sx cx sy cy sz cz (wave d)) i) (box_at (gradient_at Wide f sx' cx' sy' cy' sz' cz' (wave d)) i)
+    Entry f i = Nested 100 (box_at (gradient_at ar f narrow (wave d)) i) (box_at (gradient_at Wide f wide (wave d)) i)
 
     gradient_nested : (f : Surface) (i : ℕ) → i < 3 → Entry f i
     unfolding gradient_at entry_at
@@ -196,25 +211,20 @@ module _ (ar : Arithmetic) (d : Description) (above : pos 0 <ℤ d.period) where
     gradient_nested Surface.Primitive = three (Entry Surface.Primitive)
         (by_wave (looser 80 tt (negation_nested X.0))) (by_wave (looser 80 tt (negation_nested Y.0))) (by_wave (looser 80 tt (negation_nested Z.0)))
 
-  -- none is found wide
-  absent : {j j' : Jet} → (T j'.found → ⊥) → JetNested j j'
-  absent n = record { found = λ t. absurd (n t); value = λ t. absurd (n t); gradient = λ t. absurd (n t) }
+  abbrev made : Arithmetic → Surface → Option Circle → Option Circle → Option Circle → Option Jet
+  made a f x y z = option_map (jet_of a f (wave d)) (waves_of x y z)
 
-  abbrev made : Arithmetic → Surface → Turn → Turn → Turn → Jet
-  made a f x y z = jet_of a f (waves_of x y z) (wave d)
-
-  found_nested : (f : Surface) (x x' y y' z z' : Turn) → TurnNested x x' → TurnNested y y' → TurnNested z z'
+  found_nested : (f : Surface) (x x' y y' z z' : Option Circle) → TurnNested x x' → TurnNested y y' → TurnNested z z'
       → JetNested (made ar f x y z) (made Wide f x' y' z')
-  found_nested f x Turn.None y y' z z' X Y Z = absent (λ t. t)
-  found_nested f Turn.None (Turn.Found s c) y y' z z' X Y Z = absurd X
-  found_nested f (Turn.Found s c) (Turn.Found s' c') y Turn.None z z' X Y Z = absent (λ t. t)
-  found_nested f (Turn.Found s c) (Turn.Found s' c') Turn.None (Turn.Found u e) z z' X Y Z = absurd Y
-  found_nested f (Turn.Found s c) (Turn.Found s' c') (Turn.Found u e) (Turn.Found u' e') z Turn.None X Y Z = absent (λ t. t)
-  found_nested f (Turn.Found s c) (Turn.Found s' c') (Turn.Found u e) (Turn.Found u' e') Turn.None (Turn.Found v o) X Y Z = absurd Z
-  found_nested f (Turn.Found s c) (Turn.Found s' c') (Turn.Found u e) (Turn.Found u' e') (Turn.Found v o) (Turn.Found v' o') X Y Z = record {
-    found = λ _. tt;
-    value = λ _. value_nested X Y Z f;
-    gradient = λ _. gradient_nested X Y Z f;
+  found_nested f x None y y' z z' X Y Z = tt
+  found_nested f None (Some s) y y' z z' X Y Z = absurd X
+  found_nested f (Some s) (Some s') y None z z' X Y Z = tt
+  found_nested f (Some s) (Some s') None (Some u) z z' X Y Z = absurd Y
+  found_nested f (Some s) (Some s') (Some u) (Some u') z None X Y Z = tt
+  found_nested f (Some s) (Some s') (Some u) (Some u') None (Some v) X Y Z = absurd Z
+  found_nested f (Some s) (Some s') (Some u) (Some u') (Some v) (Some v') X Y Z = record {
+    value = value_nested X Y Z f;
+    gradient = gradient_nested X Y Z f;
   }
 
   -- THE FACT, at the centre of a box of ticks
@@ -224,7 +234,7 @@ module _ (ar : Arithmetic) (d : Description) (above : pos 0 <ℤ d.period) where
   jet_nested lo hi low-in high-in = found_nested (surface_of d.kind) (at ar 0) (at Wide 0) (at ar 1) (at Wide 1) (at ar 2) (at Wide 2)
       (inside 0 (lit< tt)) (inside 1 (lit< tt)) (inside 2 (lit< tt))
     where
-      at : Arithmetic → ℕ → Turn
+      at : Arithmetic → ℕ → Option Circle
       at a i = turn a (leaf a d) (product (point (mid (ends lo hi i))) (turns d))
 
       inside : (i : ℕ) → i < 3 → TurnNested (at ar i) (at Wide i)

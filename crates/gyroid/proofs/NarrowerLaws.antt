@@ -11,6 +11,7 @@ use lib.IntN.{ℤ}
 use lib.Signed.{◌≤ℤ◌}
 use lib.Ieee.{Float, lt}
 use lib.Ieee.Scale.{finite}
+use Rattle.std.specs.Prelude.{Option, Some, None, option_map}
 use Rattle.exact.specs.Fraction.{whole, ◌≤F◌, ◌<F◌}
 use Rattle.exact.proofs.IntegerOrder.{le_or_lt}
 use Rattle.exact.proofs.Fraction.{≤F_trans, same_den_lt, <F_le, <F_irrefl, ≤F-<F_trans, <F-≤F_trans}
@@ -23,64 +24,60 @@ use Rattle.interval.proofs.Compare.{lt_value, nlt_value}
 use Rattle.interval.proofs.Membership.{wider, zero_finite, zero_encloses}
 use Rattle.interval.proofs.Narrower.{Sized, sized, Nested, itself, lies, looser, sum_nested, difference_nested}
 use Rattle.interval.proofs.NarrowerBounds.{Under, under_looser, sum_under, product_under, symmetric_nested}
-use Rattle.grade.specs.declared.LevelKind.{LevelKind}
 use Rattle.grade.specs.declared.GradeDef.{GradeDef}
 use Rattle.grade.specs.declared.Piece.{Piece}
-use Rattle.grade.specs.declared.PieceAnswer.{PieceAnswer}
 use Rattle.limits.specs.Ticks.{ticks}
 use Rattle.grade.specs.Grade.{Point}
 use Rattle.grade.specs.Exact.{compiled}
-use Rattle.grade.specs.Intervals.{unit, grade_intervals, box_at, zero, zeros, piece_gradient, piece}
+use Rattle.grade.specs.Intervals.{grade_intervals, box_at, zero, zeros, piece_gradient, piece}
 use Rattle.grade.specs.Fits.{Within3}
 use Rattle.grade.specs.Holds.{InBox}
 use Rattle.grade.specs.Extended.{WholeTicks}
 use Rattle.grade.proofs.Axes.{three}
 use Rattle.grade.proofs.EntryLaws.{ticks_within}
-use Rattle.grade.proofs.IntervalLaws.{unit_encloses, kind_is}
 use Rattle.grade.proofs.SlopeLaws.{zeros_at, piece_gradient_encloses}
 use Rattle.grade.proofs.NarrowerLaws.{interval_nested, affine_nested, piece_gradient_same}
 use Rattle.grade.proofs.TickPieceLaws.{tick_piece_same}
 use Rattle.gyroid.specs.declared.Description.{Description}
 use Rattle.gyroid.specs.declared.Surface.{Surface}
 use Rattle.gyroid.specs.declared.Jet.{Jet}
-use Rattle.gyroid.specs.declared.Residual.{Residual}
 use Rattle.gyroid.specs.declared.State.TheVariants.{Inside, Outside, Unsettled}
 use Rattle.gyroid.specs.Refusals.{all_finite}
 use Rattle.gyroid.specs.Jet.{minus, jet}
 use Rattle.gyroid.specs.Fits.{Accepted}
 use Rattle.gyroid.specs.Settles.{LiesIn}
-use Rattle.gyroid.specs.Leaf.{wave, surface_of, constant_level, leaf}
-use Rattle.gyroid.specs.Residual.{centre, radius, radii, reach, spread, second_order, bound, held, about_centre, expanded, expansion}
-use Rattle.gyroid.specs.Residual.{level_at, less_level, residual_on, residual_by, residual, state_of, box_state}
+use Rattle.gyroid.specs.Leaf.{wave, surface_of, leaf}
+use Rattle.gyroid.specs.Residual.{centre, radius, radii, reach, spread, second_order, bound, expanded, expansion}
+use Rattle.gyroid.specs.Residual.{level_at, less_level, residual_on, residual, state_of, box_state}
 use Rattle.gyroid.specs.Admitted.{ends, tick_box}
-use Rattle.gyroid.proofs.AcceptedLaws.{Passed, accepted, constant_within}
+use Rattle.gyroid.proofs.AcceptedLaws.{Passed, accepted}
 use Rattle.gyroid.proofs.AlikeLaws.{of_ticks}
 use Rattle.gyroid.proofs.CentreLaws.{centre_in, point_in}
-use Rattle.gyroid.proofs.NarrowerJet.{JetNested, jet_nested}
+use Rattle.gyroid.proofs.NarrowerJet.{JetLies, JetNested, jet_nested}
 use Rattle.gyroid.proofs.NarrowerBound.{wave_squared_nonneg, wave_squared_under, zero_under, bracket_under, reach_under, radius_under}
 
 -- ---- a residual that lies in another, with the sizes of both
-abbrev NestedIn : ℕ → Residual → Residual → Type 0
-NestedIn k r Residual.None = Unit {0}
-NestedIn k Residual.None (Residual.Enclosure lo hi) = ⊥
-NestedIn k (Residual.Enclosure lo hi) (Residual.Enclosure lo' hi') = Nested k (record { lo = lo; hi = hi }) (record { lo = lo'; hi = hi' })
+abbrev NestedIn : ℕ → Option Interval → Option Interval → Type 0
+NestedIn k r None = Unit {0}
+NestedIn k None (Some v) = ⊥
+NestedIn k (Some u) (Some v) = Nested k u v
 
-lies_in : (k : ℕ) (r r' : Residual) → NestedIn k r r' → LiesIn r r'
-lies_in k r Residual.None h = tt
-lies_in k Residual.None (Residual.Enclosure lo hi) h = absurd h
-lies_in k (Residual.Enclosure lo hi) (Residual.Enclosure lo' hi') h = lies h
+lies_in : (k : ℕ) (r r' : Option Interval) → NestedIn k r r' → LiesIn r r'
+lies_in k r None h = tt
+lies_in k None (Some v) h = absurd h
+lies_in k (Some u) (Some v) h = lies h
 
-more : (r r' : Residual) → NestedIn 125 r r' → NestedIn 127 r r'
-more r Residual.None h = tt
-more Residual.None (Residual.Enclosure lo hi) h = absurd h
-more (Residual.Enclosure lo hi) (Residual.Enclosure lo' hi') h = looser 127 tt h
+more : (r r' : Option Interval) → NestedIn 125 r r' → NestedIn 127 r r'
+more r None h = tt
+more None (Some v) h = absurd h
+more (Some u) (Some v) h = looser 127 tt h
 
 -- less the level's range
-less_nested : (ar : Arithmetic) (r r' : Residual) {L L' : Interval} → NestedIn 125 r r' → Nested 100 L L'
+less_nested : (ar : Arithmetic) (r r' : Option Interval) {L L' : Interval} → NestedIn 125 r r' → Nested 100 L L'
     → NestedIn 127 (less_level ar r L) (less_level Wide r' L')
-less_nested ar r Residual.None h l = tt
-less_nested ar Residual.None (Residual.Enclosure lo hi) h l = absurd h
-less_nested ar (Residual.Enclosure lo hi) (Residual.Enclosure lo' hi') h l = difference_nested ar tt h l
+less_nested ar r None h l = tt
+less_nested ar None (Some v) h l = absurd h
+less_nested ar (Some u) (Some v) h l = difference_nested ar tt h l
 
 -- ---- the same state, where the wide one is settled
 module _ {k : ℕ} {X Y : Interval} (h : Nested k X Y) where
@@ -113,7 +110,7 @@ module _ {k : ℕ} {X Y : Interval} (h : Nested k X Y) where
   not_both t u = let (xl, xh, yl, yh) = end_finite in
       <F_irrefl (<F-≤F_trans (lt_value (b64 0) X.lo zero_finite xl u) h.small.order) (<F_le (lt_value X.hi (b64 0) xh zero_finite t))
 
-  enclosure_state : (state_of (held Y) ≡ Unsettled → ⊥) → state_of (held X) ≡ state_of (held Y)
+  enclosure_state : (state_of (Some Y) ≡ Unsettled → ⊥) → state_of (Some X) ≡ state_of (Some Y)
   enclosure_state = by_tests (lt (b64 0) X.lo) (lt X.hi (b64 0)) (lt (b64 0) Y.lo) (lt Y.hi (b64 0)) above below not_both
     where
       by_tests : (a b a' b' : Bool) → (T a' → T a) → (T b' → T b) → (T b → T a → ⊥)
@@ -127,10 +124,10 @@ module _ {k : ℕ} {X Y : Interval} (h : Nested k X Y) where
       by_tests false false false true f g n s = absurd (g tt)
       by_tests a b false false f g n s = absurd (s refl)
 
-state_kept : (k : ℕ) (r r' : Residual) → NestedIn k r r' → (state_of r' ≡ Unsettled → ⊥) → state_of r ≡ state_of r'
-state_kept k r Residual.None h s = absurd (s refl)
-state_kept k Residual.None (Residual.Enclosure lo hi) h s = absurd h
-state_kept k (Residual.Enclosure lo hi) (Residual.Enclosure lo' hi') h s = enclosure_state h s
+state_kept : (k : ℕ) (r r' : Option Interval) → NestedIn k r r' → (state_of r' ≡ Unsettled → ⊥) → state_of r ≡ state_of r'
+state_kept k r None h s = absurd (s refl)
+state_kept k None (Some v) h s = absurd h
+state_kept k (Some u) (Some v) h s = enclosure_state h s
 
 -- ---- the expansion, the residual
 module _
@@ -153,52 +150,49 @@ module _
       at : (i : ℕ) → i < 3 → Under 12 (point (r ar i)) (point (r Wide i))
       at = radius_under ar lo hi low-in high-in p inside
 
-  abbrev j : Arithmetic → Jet
+  abbrev j : Arithmetic → Option Jet
   j a = jet a (leaf a d) (centre w)
+
+  abbrev term : Arithmetic → Interval
+  term a = second_order a f (square (wave d)) (radii a w)
 
   -- a level and its slope
   module _
       {L L' : Interval} (S S' : List Interval) (level : Nested 100 L L')
       (slope : (i : ℕ) → i < 3 → Nested 100 (box_at S i) (box_at S' i)) where
-    module _ (found : T (j Wide).found) where
-      at_centre : JetNested (j ar) (j Wide)
-      at_centre = jet_nested ar d passed.above lo hi low-in high-in
+    module _ {J J' : Jet} (at_centre : JetLies J J') where
+      steep : (i : ℕ) → i < 3 → Nested 102 (difference ar (box_at J.gradient i) (box_at S i)) (difference Wide (box_at J'.gradient i) (box_at S' i))
+      steep i b = difference_nested ar tt (at_centre.gradient i b) (slope i b)
 
-      steep : (i : ℕ) → i < 3 → Nested 102 (difference ar (box_at (j ar).gradient i) (box_at S i)) (difference Wide (box_at (j Wide).gradient i) (box_at S' i))
-      steep i b = difference_nested ar tt (at_centre.gradient found i b) (slope i b)
-
-      bound_under : Under 123 (sum ar (spread ar (minus ar (j ar).gradient S) (radii ar w)) (second_order ar f (square (wave d)) (radii ar w)))
-          (sum Wide (spread Wide (minus Wide (j Wide).gradient S') (radii Wide w)) (second_order Wide f (square (wave d)) (radii Wide w)))
+      bound_under : Under 123 (sum ar (spread ar (minus ar J.gradient S) (radii ar w)) (term ar))
+          (sum Wide (spread Wide (minus Wide J'.gradient S') (radii Wide w)) (term Wide))
       unfolding spread minus radii
       bound_under = sum_under ar tt (sum_under ar tt (sum_under ar tt (sum_under ar tt zero_under (share 0 (lit< tt))) (share 1 (lit< tt)))
           (share 2 (lit< tt))) term_under
         where
-          share : (i : ℕ) (b : i < 3) → Under 115 (reach (difference ar (box_at (j ar).gradient i) (box_at S i)) (point (r ar i)))
-              (reach (difference Wide (box_at (j Wide).gradient i) (box_at S' i)) (point (r Wide i)))
+          share : (i : ℕ) (b : i < 3) → Under 115 (reach (difference ar (box_at J.gradient i) (box_at S i)) (point (r ar i)))
+              (reach (difference Wide (box_at J'.gradient i) (box_at S' i)) (point (r Wide i)))
           share i b = reach_under ar (steep i b) (radius_under ar lo hi low-in high-in p inside i b)
 
-      about_nested : Nested 125 (about_centre ar (second_order ar f (square (wave d)) (radii ar w)) (j ar).value (j ar).gradient L S (radii ar w))
-          (about_centre Wide (second_order Wide f (square (wave d)) (radii Wide w)) (j Wide).value (j Wide).gradient L' S' (radii Wide w))
+      about_nested : Nested 125 (expanded ar (term ar) L S (radii ar w) J) (expanded Wide (term Wide) L' S' (radii Wide w) J')
       unfolding bound
-      about_nested = sum_nested ar tt (difference_nested ar tt (at_centre.value found) level) (symmetric_nested bound_under)
+      about_nested = sum_nested ar tt (difference_nested ar tt at_centre.value level) (symmetric_nested bound_under)
 
     expansion_nested : NestedIn 125 (expansion ar (leaf ar d) w L S) (expansion Wide (leaf Wide d) w L' S')
-    unfolding expansion expanded leaf
+    unfolding expansion leaf
     expansion_nested = finite (not (all_finite w))
       where
-        about : Arithmetic → Interval → List Interval → Residual
-        about a l s = held (about_centre a (second_order a f (square (wave d)) (radii a w)) (j a).value (j a).gradient l s (radii a w))
+        about : Arithmetic → Interval → List Interval → Option Jet → Option Interval
+        about a l s o = option_map (expanded a (term a) l s (radii a w)) o
 
-        found : (x y : Bool) → (T y → T x) → (T y → NestedIn 125 (about ar L S) (about Wide L' S'))
-            → NestedIn 125 (cond (not x) Residual.None (about ar L S)) (cond (not y) Residual.None (about Wide L' S'))
-        found x false n h = tt
-        found false true n h = absurd (n tt)
-        found true true n h = h tt
+        found : (o o' : Option Jet) → JetNested o o' → NestedIn 125 (about ar L S o) (about Wide L' S' o')
+        found o None h = tt
+        found None (Some J) h = absurd h
+        found (Some J) (Some J') h = about_nested h
 
-        finite : (b : Bool) → NestedIn 125 (cond b Residual.None (cond (not (j ar).found) Residual.None (about ar L S)))
-            (cond b Residual.None (cond (not (j Wide).found) Residual.None (about Wide L' S')))
+        finite : (b : Bool) → NestedIn 125 (cond b None (about ar L S (j ar))) (cond b None (about Wide L' S' (j Wide)))
         finite true = tt
-        finite false = found (j ar).found (j Wide).found (jet_nested ar d passed.above lo hi low-in high-in).found about_nested
+        finite false = found (j ar) (j Wide) (jet_nested ar d passed.above lo hi low-in high-in)
 
   -- ---- the level by piece, and its slope
   abbrev G : GradeDef
@@ -229,14 +223,11 @@ module _
   flat_nested : (i : ℕ) → i < 3 → Nested 100 (box_at zeros i) (box_at zeros i)
   flat_nested i b = itself (sized (wider 100 tt (zeros_at i b)))
 
-  constant_nested : Nested 100 (unit (constant_level G)) (unit (constant_level G))
-  constant_nested = itself (sized (wider 100 tt (unit_encloses 2 (constant_level G) tt (constant_within G passed.fits).abs)))
-
-  on_piece : (a : PieceAnswer) → NestedIn 127 (residual_on ar a (leaf ar d) w) (residual_on Wide a (leaf Wide d) w)
+  on_piece : (a : Option Piece) → NestedIn 127 (residual_on ar a (leaf ar d) w) (residual_on Wide a (leaf Wide d) w)
   unfolding leaf
-  on_piece (PieceAnswer.Found a) = more (residual_on ar (PieceAnswer.Found a) (leaf ar d) w) (residual_on Wide (PieceAnswer.Found a) (leaf Wide d) w)
+  on_piece (Some a) = more (residual_on ar (Some a) (leaf ar d) w) (residual_on Wide (Some a) (leaf Wide d) w)
       (expansion_nested (piece_gradient (grade_intervals ar G) a) (piece_gradient (grade_intervals Wide G) a) (level_nested a) (slope_nested a))
-  on_piece PieceAnswer.None = less_nested ar (expansion ar (leaf ar d) w zero zeros) (expansion Wide (leaf Wide d) w zero zeros)
+  on_piece None = less_nested ar (expansion ar (leaf ar d) w zero zeros) (expansion Wide (leaf Wide d) w zero zeros)
       (expansion_nested zeros zeros (itself (sized (wider 100 tt zero_encloses))) flat_nested)
       (interval_nested ar d.level passed.level passed.apart w box)
 
@@ -256,21 +247,14 @@ module _
 
   residual_nested : NestedIn 127 (residual ar (leaf ar d) w) (residual Wide (leaf Wide d) w)
   unfolding residual leaf
-  residual_nested = subst (λ (k : LevelKind). NestedIn 127 (residual_by ar k (leaf ar d) w) (residual Wide (leaf Wide d) w)) (sym (kind_is ar G))
-      (subst (λ (k : LevelKind). NestedIn 127 (residual_by ar G.kind (leaf ar d) w) (residual_by Wide k (leaf Wide d) w)) (sym (kind_is Wide G))
-      (go G.kind))
-    where
-      go : (k : LevelKind) → NestedIn 127 (residual_by ar k (leaf ar d) w) (residual_by Wide k (leaf Wide d) w)
-      go LevelKind.Constant = more (residual_by ar LevelKind.Constant (leaf ar d) w) (residual_by Wide LevelKind.Constant (leaf Wide d) w)
-          (expansion_nested zeros zeros constant_nested flat_nested)
-      go LevelKind.Linear = subst (λ (a : PieceAnswer). NestedIn 127 (residual_on ar a (leaf ar d) w) (residual_by Wide LevelKind.Linear (leaf Wide d) w))
-          (sym same_piece) (on_piece (piece Wide (grade_intervals Wide G) w))
+  residual_nested = subst (λ (a : Option Piece). NestedIn 127 (residual_on ar a (leaf ar d) w) (residual Wide (leaf Wide d) w)) (sym same_piece)
+      (on_piece (piece Wide (grade_intervals Wide G) w))
 
 -- ---- THE THEOREM
 module _
     (ar : Arithmetic) (d : Description) (none : Accepted d) (lo hi : List ℤ) (low-ticks : T (ticks lo)) (high-ticks : T (ticks hi))
     (p : Point) (inside : InBox lo hi p) where
-  abbrev found : Arithmetic → PieceAnswer
+  abbrev found : Arithmetic → Option Piece
   found a = piece a (leaf a d).intervals (tick_box lo hi)
 
   -- both find the same piece, or none

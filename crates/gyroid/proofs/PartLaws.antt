@@ -3,184 +3,174 @@ use mathlib.Core.Path.{◌≡◌, refl, sym, ap, ◌∙◌}
 use mathlib.Core.Bool.{Bool, true, false, cond, not, ◌&&◌}
 use mathlib.Core.List.{List}
 use Prim.Native.Nat.{ℕ}
-use lib.Dec.{T}
+use lib.Ieee.{Float}
+use Rattle.std.specs.Prelude.{Option, Some, None, option_map}
 use Rattle.interval.specs.declared.Interval.{Interval}
 use Rattle.interval.specs.Interval.{Arithmetic, point, product, mid}
-use Rattle.grade.specs.declared.LevelKind.{LevelKind}
 use Rattle.grade.specs.declared.Piece.{Piece}
-use Rattle.grade.specs.declared.PieceAnswer.{PieceAnswer}
 use Rattle.grade.specs.declared.LinearIntervals.{LinearIntervals}
-use Rattle.grade.specs.Intervals.{box_at, zero, zeros, along_axis, parameter_of, parameter, piece_of, piece}
-use Rattle.limits.proofs.TickLaws.{both}
-use Rattle.grade.proofs.LinearLaws.{parameter_shares, piece_linear, interval_linear, affine_linear}
+use Rattle.grade.specs.declared.GradeIntervals.{GradeIntervals}
+use Rattle.grade.specs.Intervals.{box_at, zero, zeros, along_axis, parameter_of, parameter, piece_of}
+use Rattle.grade.proofs.LinearLaws.{parameter_shares, piece_constant, interval_constant, piece_linear, interval_linear, affine_linear, start_gradient}
+use Rattle.gyroid.specs.declared.Circle.{Circle}
 use Rattle.gyroid.specs.declared.Gyroid.{Gyroid}
-use Rattle.gyroid.specs.declared.Turn.{Turn}
+use Rattle.gyroid.specs.declared.Shares.{Shares}
 use Rattle.gyroid.specs.declared.Part.{Part}
 use Rattle.gyroid.specs.declared.LevelAbout.{LevelAbout}
-use Rattle.gyroid.specs.declared.Residual.{Residual}
-use Rattle.gyroid.specs.declared.Residual.TheVariants.{None}
 use Rattle.gyroid.specs.Refusals.{ends_within, greatest_double, all_finite}
 use Rattle.gyroid.specs.Turn.{turn}
 use Rattle.gyroid.specs.Jet.{waves_of, waves, jet_of, jet}
-use Rattle.gyroid.specs.Residual.{centre, radius, radii, second_order, held, expanded, expansion, level_at}
-use Rattle.gyroid.specs.Residual.{residual_on, residual_by, residual, state_of, box_state}
-use Rattle.gyroid.specs.Parts.{shares_by, shares, no_part, part_of, part, centre_level, about_on, about_at, about_by}
-use Rattle.gyroid.specs.Parts.{level_about, joined_about, less_range, joined_of, joined}
+use Rattle.gyroid.specs.Residual.{centre, radius, radii, second_order, expanded, expansion, less_level, residual_on, residual, state_of, box_state}
+use Rattle.gyroid.specs.Parts.{shares, part_of, part, about_on, level_about, second_of, joined_about, less_about, joined_of, joined}
 use Rattle.gyroid.proofs.InfiniteLaws.{none_residual}
-
--- ---- all three parts found
-abbrev all_found : Part → Part → Part → Bool
-all_found x y z = x.found && y.found && z.found
-
-where_found : (b : Bool) (r : Residual) → T b → cond (not b) None r ≡ r
-where_found true r u = refl
-where_found false r u = absurd u
-
-where_not_found : (b : Bool) (r : Residual) → T (not b) → cond (not b) None r ≡ None
-where_not_found true r u = absurd u
-where_not_found false r u = refl
 
 -- ---- in either arithmetic
 module _ (ar : Arithmetic) where
-  abbrev part_by : Bool → Turn → Gyroid → ℕ → Interval → Part
-  part_by q t g i b = cond (not q) no_part (part_of ar t g.intervals i b)
+  abbrev part_by : Bool → Option Circle → Gyroid → ℕ → Interval → Option Part
+  part_by q t g i b = cond (not q) None (option_map (part_of ar g.intervals i b) t)
 
   -- ---- the radius and the shares of a part that is found
-  pub radius_found : (g : Gyroid) (i : ℕ) (b : Interval) → T (part ar g i b).found → (part ar g i b).radius ≡ radius ar b
-  unfolding part
-  radius_found g i b = go (ends_within greatest_double b) (turn ar g (product (point (mid b)) g.turns))
-    where
-      go : (q : Bool) (t : Turn) → T (part_by q t g i b).found → (part_by q t g i b).radius ≡ radius ar b
-      go true (Turn.Found s c) u = refl
-      go true Turn.None u = absurd u
-      go false t u = absurd u
+  module _ (g : Gyroid) (i : ℕ) (b : Interval) where
+    abbrev radius_or : Option Part → Float
+    radius_or (Some p) = p.radius
+    radius_or None = radius ar b
 
-  shares_found : (g : Gyroid) (i : ℕ) (b : Interval) → T (part ar g i b).found → (part ar g i b).shares ≡ shares ar g.intervals i b (point (mid b))
-  unfolding part
-  shares_found g i b = go (ends_within greatest_double b) (turn ar g (product (point (mid b)) g.turns))
-    where
-      go : (q : Bool) (t : Turn) → T (part_by q t g i b).found → (part_by q t g i b).shares ≡ shares ar g.intervals i b (point (mid b))
-      go true (Turn.Found s c) u = refl
-      go true Turn.None u = absurd u
-      go false t u = absurd u
+    pub radius_found : {p : Part} → part ar g i b ≡ Some p → p.radius ≡ radius ar b
+    unfolding part
+    radius_found e = sym (ap radius_or e) ∙ go (ends_within greatest_double b) (turn ar g (product (point (mid b)) g.turns))
+      where
+        go : (q : Bool) (t : Option Circle) → radius_or (part_by q t g i b) ≡ radius ar b
+        go true (Some c) = refl
+        go true None = refl
+        go false t = refl
 
-  shares_linear : (g : Gyroid) (i : ℕ) (b m : Interval) → g.intervals.kind ≡ LevelKind.Linear → shares ar g.intervals i b m
-      ≡ record { along = along_axis ar g.intervals.linear i b; middle = along_axis ar g.intervals.linear i m }
-  unfolding shares
-  shares_linear g i b m e = ap (λ k. shares_by ar k g.intervals.linear i b m) e
+    abbrev own_shares : Shares
+    own_shares = shares ar g.intervals i b (point (mid b))
+
+    abbrev shares_or : Option Part → Shares
+    shares_or (Some p) = p.shares
+    shares_or None = own_shares
+
+    shares_found : {p : Part} → part ar g i b ≡ Some p → p.shares ≡ own_shares
+    unfolding part
+    shares_found e = sym (ap shares_or e) ∙ go (ends_within greatest_double b) (turn ar g (product (point (mid b)) g.turns))
+      where
+        go : (q : Bool) (t : Option Circle) → shares_or (part_by q t g i b) ≡ own_shares
+        go true (Some c) = refl
+        go true None = refl
+        go false t = refl
 
   -- ---- the expansion about the centre, for any level, from parts
-  -- the surface less the level, about the centre
-  abbrev about : Gyroid → Part → Part → Part → Interval → List Interval → Interval
-  about g x y z level slope = joined_about ar g.surface g.wave g.wave_squared x y z level slope
-
-  abbrev pub expansion_of : Gyroid → Part → Part → Part → Interval → List Interval → Residual
-  expansion_of g x y z level slope = cond (not (all_found x y z)) None (held (about g x y z level slope))
+  abbrev pub expansion_of : Gyroid → Option Part → Option Part → Option Part → Interval → List Interval → Option Interval
+  expansion_of g None y z level slope = None
+  expansion_of g (Some x) None z level slope = None
+  expansion_of g (Some x) (Some y) None level slope = None
+  expansion_of g (Some x) (Some y) (Some z) level slope = Some (joined_about ar g x y z level slope)
 
   module _ (g : Gyroid) (w : List Interval) where
-    abbrev x : Part
+    abbrev x : Option Part
     x = part ar g 0 (box_at w 0)
 
-    abbrev y : Part
+    abbrev y : Option Part
     y = part ar g 1 (box_at w 1)
 
-    abbrev z : Part
+    abbrev z : Option Part
     z = part ar g 2 (box_at w 2)
 
     pub expansion_joined : (level : Interval) (slope : List Interval) → expansion ar g w level slope ≡ expansion_of g x y z level slope
-    unfolding expansion expanded second_order all_finite jet waves centre radii part joined_about
+    unfolding expansion all_finite jet waves centre radii part second_of joined_about
     expansion_joined level slope =
         go (ends_within greatest_double (box_at w 0)) (ends_within greatest_double (box_at w 1)) (ends_within greatest_double (box_at w 2))
         (turn ar g (product (point (mid (box_at w 0))) g.turns)) (turn ar g (product (point (mid (box_at w 1))) g.turns))
         (turn ar g (product (point (mid (box_at w 2))) g.turns))
       where
-        term : Interval
-        term = second_order ar g.surface g.wave_squared (radii ar w)
+        of_jet : Option Circle → Option Circle → Option Circle → Option Interval
+        of_jet p q r = option_map (expanded ar (second_order ar g.surface g.wave_squared (radii ar w)) level slope (radii ar w))
+            (option_map (jet_of ar g.surface g.wave) (waves_of p q r))
 
-        go : (a b c : Bool) (p q r : Turn)
-            → cond (not (a && b && c)) None (expanded ar term (jet_of ar g.surface (waves_of p q r) g.wave) level slope (radii ar w))
+        go : (a b c : Bool) (p q r : Option Circle) → cond (not (a && b && c)) None (of_jet p q r)
             ≡ expansion_of g (part_by a p g 0 (box_at w 0)) (part_by b q g 1 (box_at w 1)) (part_by c r g 2 (box_at w 2)) level slope
         go false b c p q r = refl
-        go true false c (Turn.Found s d) q r = refl
-        go true false c Turn.None q r = refl
-        go true true false (Turn.Found s d) (Turn.Found t e) r = refl
-        go true true false (Turn.Found s d) Turn.None r = refl
-        go true true false Turn.None q r = refl
-        go true true true (Turn.Found s d) (Turn.Found t e) (Turn.Found u f) = refl
-        go true true true (Turn.Found s d) (Turn.Found t e) Turn.None = refl
-        go true true true (Turn.Found s d) Turn.None r = refl
-        go true true true Turn.None q r = refl
+        go true false c (Some s) q r = refl
+        go true false c None q r = refl
+        go true true false (Some s) (Some t) r = refl
+        go true true false (Some s) None r = refl
+        go true true false None q r = refl
+        go true true true (Some s) (Some t) (Some u) = refl
+        go true true true (Some s) (Some t) None = refl
+        go true true true (Some s) None r = refl
+        go true true true None q r = refl
 
-    -- ---- the level, where all three are found
-    abbrev taken : LevelAbout → Residual
-    taken a = less_range ar a (about g x y z a.at a.slope)
+    -- ---- where all three parts are found
+    module _ {p q r : Part} (on_x : x ≡ Some p) (on_y : y ≡ Some q) (on_z : z ≡ Some r) where
+      expansion_found : (level : Interval) (slope : List Interval) → Some (joined_about ar g p q r level slope) ≡ expansion ar g w level slope
+      expansion_found level slope = sym (expansion_joined level slope ∙ (λ j. expansion_of g (on_x j) (on_y j) (on_z j) level slope))
 
-    abbrev about_box : LevelAbout
-    about_box = level_about ar g.intervals g.interval_level x.shares y.shares z.shares
+      at_level : {a b : Interval} (slope : List Interval) → a ≡ b → Some (joined_about ar g p q r a slope) ≡ expansion ar g w b slope
+      at_level {b} slope e = (λ j. Some (joined_about ar g p q r (e j) slope)) ∙ expansion_found b slope
 
-    module _ (found : T (all_found x y z)) where
-      expansion_found : (level : Interval) (slope : List Interval) → expansion ar g w level slope ≡ held (about g x y z level slope)
-      expansion_found level slope = expansion_joined level slope ∙ where_found (all_found x y z) (held (about g x y z level slope)) found
+      -- the level about the centre of the box
+      abbrev about_box : LevelAbout
+      about_box = level_about ar g.intervals (own_shares g 0 (box_at w 0)) (own_shares g 1 (box_at w 1)) (own_shares g 2 (box_at w 2))
 
-      at_level : {a b : Interval} (slope : List Interval) → a ≡ b → held (about g x y z a slope) ≡ expansion ar g w b slope
-      at_level {a} {b} slope e = ap (λ level. held (about g x y z level slope)) e ∙ sym (expansion_found b slope)
+      shares_about : Some (joined_of ar g p q r) ≡ Some (less_about ar g p q r about_box)
+      unfolding joined_of
+      shares_about = λ j. Some (less_about ar g p q r (level_about ar g.intervals (shares_found g 0 (box_at w 0) on_x j)
+          (shares_found g 1 (box_at w 1) on_y j) (shares_found g 2 (box_at w 2) on_z j)))
 
-      abbrev l : LinearIntervals
-      l = g.intervals.linear
+  -- ---- a leaf by its levels
+  module _ (g : Gyroid) (w : List Interval) where
+    abbrev with : GradeIntervals → Gyroid
+    with k = record g { intervals = k }
 
-      module _ (linear : g.intervals.kind ≡ LevelKind.Linear) where
-        xy_found : T x.found × T y.found
-        xy_found = both x.found y.found (both (x.found && y.found) z.found found).0
+    module _ {p q r : Part} (l : LinearIntervals) (on_x : x (with (GradeIntervals.Linear l)) w ≡ Some p)
+        (on_y : y (with (GradeIntervals.Linear l)) w ≡ Some q) (on_z : z (with (GradeIntervals.Linear l)) w ≡ Some r) where
+      abbrev h : Gyroid
+      h = with (GradeIntervals.Linear l)
 
-        z_found : T z.found
-        z_found = (both (x.found && y.found) z.found found).1
+      on_piece : (a : Option Piece) → Some (less_about ar h p q r (about_on ar a l (parameter ar l w) (parameter ar l (centre w)))) ≡ residual_on ar a h w
+      on_piece (Some Piece.Start) = at_level h w on_x on_y on_z _ (sym (interval_linear ar l (centre w)))
+      on_piece (Some Piece.Ramp) = at_level h w on_x on_y on_z _ (sym (affine_linear ar l (centre w)))
+      on_piece (Some Piece.End) = at_level h w on_x on_y on_z _ (sym (interval_linear ar l (centre w)))
+      on_piece None = λ j. less_level ar (expansion_found h w on_x on_y on_z zero zeros j) (sym (interval_linear ar l w) j)
 
-        shares_are : (i : ℕ) → T (part ar g i (box_at w i)).found → (part ar g i (box_at w i)).shares
-            ≡ record { along = along_axis ar l i (box_at w i); middle = along_axis ar l i (point (mid (box_at w i))) }
-        shares_are i u = shares_found g i (box_at w i) u ∙ shares_linear g i (box_at w i) (point (mid (box_at w i))) linear
+      m_is : parameter_of ar l (along_axis ar l 0 (point (mid (box_at w 0)))) (along_axis ar l 1 (point (mid (box_at w 1))))
+          (along_axis ar l 2 (point (mid (box_at w 2)))) ≡ parameter ar l (centre w)
+      unfolding centre
+      m_is = sym (parameter_shares ar l (centre w))
 
-        t_is : parameter_of ar l x.shares.along y.shares.along z.shares.along ≡ parameter ar l w
-        t_is = rw (shares_are 0 xy_found.0, shares_are 1 xy_found.1, shares_are 2 z_found, parameter_shares ar l w)
+      linear_case : Some (less_about ar h p q r (about_box h w on_x on_y on_z)) ≡ residual ar h w
+      unfolding level_about shares residual
+      linear_case = rw (m_is, sym (parameter_shares ar l w)) (on_piece (piece_of (parameter ar l w)))
+          ∙ ap (λ (a : Option Piece). residual_on ar a h w) (sym (piece_linear ar l w))
 
-        m_is : parameter_of ar l x.shares.middle y.shares.middle z.shares.middle ≡ parameter ar l (centre w)
-        unfolding centre
-        m_is = rw (shares_are 0 xy_found.0, shares_are 1 xy_found.1, shares_are 2 z_found, parameter_shares ar l (centre w))
-
-        centre_level_lem : (p : Piece) → centre_level ar l p (parameter ar l (centre w)) ≡ level_at ar g.intervals p (centre w)
-        centre_level_lem Piece.Start = sym (interval_linear ar g.intervals linear (centre w))
-        centre_level_lem Piece.Ramp = sym (affine_linear ar g.intervals linear (centre w))
-        centre_level_lem Piece.End = sym (interval_linear ar g.intervals linear (centre w))
-
-        on_piece : (a : PieceAnswer) → taken (about_on ar a g.intervals (parameter ar l w) (parameter ar l (centre w))) ≡ residual_on ar a g w
-        on_piece (PieceAnswer.Found p) = at_level _ (centre_level_lem p)
-        on_piece PieceAnswer.None = rw (expansion_found zero zeros, interval_linear ar g.intervals linear w)
-
-        by_piece : taken (about_at ar g.intervals (parameter_of ar l x.shares.along y.shares.along z.shares.along)
-            (parameter_of ar l x.shares.middle y.shares.middle z.shares.middle)) ≡ residual_on ar (piece ar g.intervals w) g w
-        by_piece = rw (t_is, m_is, piece_linear ar g.intervals linear w) (on_piece (piece_of (parameter ar l w)))
-
-      found_residual : taken about_box ≡ residual ar g w
-      unfolding level_about residual
-      found_residual = go g.intervals.kind refl
-        where
-          go : (k : LevelKind) → g.intervals.kind ≡ k → taken (about_by ar k g.intervals g.interval_level x.shares y.shares z.shares)
-              ≡ residual_by ar k g w
-          go LevelKind.Constant e = at_level zeros refl
-          go LevelKind.Linear e = by_piece e
-
-    not_found_residual : T (not (all_found x y z)) → None ≡ residual ar g w
-    not_found_residual u =
-        sym (none_residual ar g w (λ level slope. expansion_joined level slope ∙ where_not_found (all_found x y z) (held (about g x y z level slope)) u))
+    by_level : (k : GradeIntervals) {p q r : Part} (on_x : x (with k) w ≡ Some p) (on_y : y (with k) w ≡ Some q) (on_z : z (with k) w ≡ Some r)
+        → Some (less_about ar (with k) p q r (about_box (with k) w on_x on_y on_z)) ≡ residual ar (with k) w
+    unfolding level_about residual
+    by_level (GradeIntervals.Constant v) e f h =
+        let g = with (GradeIntervals.Constant v) in
+        expansion_found g w e f h v zeros
+        ∙ (λ j. expansion ar g w (sym (interval_constant ar v (centre w)) j) (sym (start_gradient (GradeIntervals.Constant v)) j))
+        ∙ ap (λ (a : Option Piece). residual_on ar a g w) (sym (piece_constant ar v w))
+    by_level (GradeIntervals.Linear l) e f h = linear_case l e f h
 
     -- ---- THE LAW
-    pub joined_residual : joined ar g (part ar g 0 (box_at w 0)) (part ar g 1 (box_at w 1)) (part ar g 2 (box_at w 2)) ≡ residual ar g w
-    unfolding joined_of
-    joined_residual = go (all_found x y z) found_residual not_found_residual
+    pub joined_residual : joined ar g (x g w) (y g w) (z g w) ≡ residual ar g w
+    joined_residual = go (x g w) (y g w) (z g w) refl refl refl
       where
-        go : (b : Bool) → (T b → taken about_box ≡ residual ar g w) → (T (not b) → None ≡ residual ar g w) → cond (not b) None (taken about_box) ≡ residual ar g w
-        go true h k = h tt
-        go false h k = k tt
+        go : (p q r : Option Part) → x g w ≡ p → y g w ≡ q → z g w ≡ r → joined ar g p q r ≡ residual ar g w
+        go None q r e f h =
+            sym (none_residual ar g w (λ level slope. expansion_joined g w level slope ∙ (λ j. expansion_of g (e j) (y g w) (z g w) level slope)))
+        go (Some p) None r e f h =
+            sym (none_residual ar g w (λ level slope. expansion_joined g w level slope ∙ (λ j. expansion_of g (e j) (f j) (z g w) level slope)))
+        go (Some p) (Some q) None e f h =
+            sym (none_residual ar g w (λ level slope. expansion_joined g w level slope ∙ (λ j. expansion_of g (e j) (f j) (h j) level slope)))
+        go (Some p) (Some q) (Some r) e f h = shares_about g w e f h ∙ by_level g.intervals e f h
 
-    pub joined_state : state_of (joined ar g (part ar g 0 (box_at w 0)) (part ar g 1 (box_at w 1)) (part ar g 2 (box_at w 2))) ≡ box_state ar g w
+    -- the other way round, as the code's proof takes it
+    pub residual_joined : residual ar g w ≡ joined ar g (x g w) (y g w) (z g w)
+    residual_joined = sym joined_residual
+
+    pub joined_state : state_of (joined ar g (x g w) (y g w) (z g w)) ≡ box_state ar g w
     unfolding box_state
     joined_state = ap state_of joined_residual

@@ -1,10 +1,10 @@
--- `residual` by the level: of any surface that `expansion` holds less an affine level, it holds the surface less the level at p. For a
--- constant level, for the pieces Start, Ramp and End, and across the anchor planes. Assumes nothing.
-use mathlib.Core.Path.{◌≡◌, refl, sym, ap, ◌∙◌, subst}
+-- `residual` by the level: of any surface that `expansion` holds less an affine level, it holds the surface less the level at p. For the pieces
+-- Start (a constant level's too), Ramp and End, and across the anchor planes. Assumes nothing.
 use mathlib.Core.List.{List, [], ◌∷◌}
 use Prim.Native.Nat.{ℕ, ◌<◌}
 use lib.Dec.{lit<}
 use lib.IntN.{pos}
+use Rattle.std.specs.Prelude.{Option, Some, None}
 use Rattle.exact.specs.Fraction.{Fraction, zero_f, ◌+F◌, ◌-F◌, ◌*F◌, ◌≈F◌}
 use Rattle.exact.proofs.Ring.{lit, ◌⊕◌, ◌⊖◌, ◌⊗◌}
 use Rattle.exact.proofs.FractionRing.{ring_f}
@@ -14,43 +14,40 @@ use Rattle.interval.specs.Encloses.{◌∈◌}
 use Rattle.interval.specs.Interval.{Arithmetic}
 use Rattle.interval.proofs.Membership.{In, equal_encloses, wider, zero_encloses}
 use Rattle.interval.proofs.Encloses.{sub_encloses}
-use Rattle.grade.specs.declared.LevelKind.{LevelKind}
 use Rattle.grade.specs.declared.GradeDef.{GradeDef}
 use Rattle.grade.specs.declared.Piece.{Piece}
-use Rattle.grade.specs.declared.PieceAnswer.{PieceAnswer}
 use Rattle.grade.specs.Grade.{Point, level}
 use Rattle.grade.specs.Exact.{compiled}
-use Rattle.grade.specs.Intervals.{unit, grade_intervals, box_at, zero, zeros, interval, affine, piece_gradient, piece}
+use Rattle.grade.specs.Intervals.{grade_intervals, box_at, zero, zeros, interval, affine, piece_gradient, piece}
 use Rattle.grade.specs.Holds.{SaysLevel}
 use Rattle.grade.specs.Extended.{affine_level, slope, piece_slope, in_units}
 use Rattle.grade.proofs.PieceLaws.{ramp_affine}
-use Rattle.grade.proofs.IntervalLaws.{intervals_kind, constant_interval, interval_encloses, affine_encloses, piece_says}
+use Rattle.grade.proofs.IntervalLaws.{interval_encloses, affine_encloses, piece_says}
 use Rattle.grade.proofs.SlopeLaws.{zeros_at, piece_gradient_encloses, affine_about}
 use Rattle.gyroid.specs.declared.Description.{Description}
-use Rattle.gyroid.specs.declared.Residual.{Residual}
-use Rattle.gyroid.specs.Leaf.{level_by, constant_level, leaf}
-use Rattle.gyroid.specs.Residual.{centre, expansion, less_level, residual_on, residual_by, residual}
+use Rattle.gyroid.specs.Leaf.{leaf}
+use Rattle.gyroid.specs.Residual.{centre, expansion, less_level, residual_on, residual}
 use Rattle.gyroid.proofs.AcceptedLaws.{Passed}
 use Rattle.gyroid.proofs.SecondOrder.{expanded_at}
 use Rattle.gyroid.proofs.ExpansionLaws.{HoldsIn, Expands}
 
 -- a residual that is an enclosure holds a fraction
-abbrev pub Has : Residual → Fraction → Type 0
-Has (Residual.Enclosure lo hi) q = q ∈ record { lo = lo; hi = hi }
-Has Residual.None q = Unit {0}
+abbrev pub Has : Option Interval → Fraction → Type 0
+Has (Some v) q = q ∈ v
+Has None q = Unit {0}
 
-pub equal_has : (a b : Fraction) → a ≈F b → (r : Residual) → Has r a → Has r b
-equal_has a b e (Residual.Enclosure lo hi) h = equal_encloses e h
-equal_has a b e Residual.None h = tt
+pub equal_has : (a b : Fraction) → a ≈F b → (r : Option Interval) → Has r a → Has r b
+equal_has a b e (Some v) h = equal_encloses e h
+equal_has a b e None h = tt
 
-unsized : (a : Fraction) (r : Residual) → HoldsIn r a → Has r a
-unsized a (Residual.Enclosure lo hi) h = h.has
-unsized a Residual.None h = tt
+unsized : (a : Fraction) (r : Option Interval) → HoldsIn r a → Has r a
+unsized a (Some v) h = h.has
+unsized a None h = tt
 
 module _ (ar : Arithmetic) where
-  less_has : (a b u : Fraction) {U : Interval} → a -F u ≈F b → (r : Residual) → HoldsIn r a → In 100 u U → Has (less_level ar r U) b
-  less_has a b u e (Residual.Enclosure lo hi) h k = equal_encloses e (sub_encloses ar tt h k).has
-  less_has a b u e Residual.None h k = tt
+  less_has : (a b u : Fraction) {U : Interval} → a -F u ≈F b → (r : Option Interval) → HoldsIn r a → In 100 u U → Has (less_level ar r U) b
+  less_has a b u e (Some v) h k = equal_encloses e (sub_encloses ar tt h k).has
+  less_has a b u e None h k = tt
 
   module _
       (d : Description) (passed : Passed d) (w : List Interval) (p m : Point)
@@ -130,27 +127,18 @@ module _ (ar : Arithmetic) where
           (λ v e x y z a b c. v ⊕ (x ⊗ a ⊕ y ⊗ b ⊕ z ⊗ c) ⊕ e) tt (v ∷ e ∷ steep 0 ∷ steep 1 ∷ steep 2 ∷ o 0 ∷ o 1 ∷ o 2 ∷ [])) (≈F_refl u))
           (expansion ar (leaf ar d) w zero zeros) (holds zero_f flat zero zeros (wider 100 tt zero_encloses) flat_in) range_in
 
-      piece_case : (a : PieceAnswer) → SaysLevel d.level p a → SaysLevel d.level m a → Has (residual_on ar a (leaf ar d) w) (surface -F u)
+      piece_case : (a : Option Piece) → SaysLevel d.level p a → SaysLevel d.level m a → Has (residual_on ar a (leaf ar d) w) (surface -F u)
       unfolding leaf
-      piece_case (PieceAnswer.Found Piece.Start) h k = same_level (piece_gradient (grade_intervals ar C) Piece.Start) (slope_in Piece.Start)
+      piece_case (Some Piece.Start) h k = same_level (piece_gradient (grade_intervals ar C) Piece.Start) (slope_in Piece.Start)
           (≈F_trans h (≈F_sym k))
-      piece_case (PieceAnswer.Found Piece.Ramp) h k = affine_case (in_units (affine_level d.level m)) u (slope d.level)
+      piece_case (Some Piece.Ramp) h k = affine_case (in_units (affine_level d.level m)) u (slope d.level)
           (affine ar (grade_intervals ar C) (centre w)) (piece_gradient (grade_intervals ar C) Piece.Ramp) (ramp_about (ramp_affine d.level p h))
           (affine_encloses ar d.level passed.level passed.apart m (centre w) centre_in) (slope_in Piece.Ramp)
-      piece_case (PieceAnswer.Found Piece.End) h k = same_level (piece_gradient (grade_intervals ar C) Piece.End) (slope_in Piece.End) (≈F_trans h (≈F_sym k))
-      piece_case PieceAnswer.None h k = across_case
-
-      -- a constant level
-      constant_in : C.kind ≡ LevelKind.Constant → In 100 u (unit (constant_level C))
-      constant_in e = subst (In 100 u) (constant_interval ar C w e ∙ sym (ap (λ (k : LevelKind). unit (level_by k C.linear)) e)) range_in
+      piece_case (Some Piece.End) h k = same_level (piece_gradient (grade_intervals ar C) Piece.End) (slope_in Piece.End) (≈F_trans h (≈F_sym k))
+      piece_case None h k = across_case
 
       -- THE FACT
       pub residual_has : Has (residual ar (leaf ar d) w) (surface -F u)
       unfolding residual leaf
-      residual_has = go (grade_intervals ar C).kind refl
-        where
-          go : (k : LevelKind) → (grade_intervals ar C).kind ≡ k → Has (residual_by ar k (leaf ar d) w) (surface -F u)
-          go LevelKind.Constant e = affine_case u u flat (unit (constant_level C)) zeros (unsloped u u (≈F_refl u)) (constant_in (sym (intervals_kind ar C) ∙ e))
-              flat_in
-          go LevelKind.Linear e = piece_case (piece ar (grade_intervals ar C) w) (piece_says ar d.level passed.level passed.apart p w p-in)
-              (piece_says ar d.level passed.level passed.apart m w m-in)
+      residual_has = piece_case (piece ar (grade_intervals ar C) w) (piece_says ar d.level passed.level passed.apart p w p-in)
+          (piece_says ar d.level passed.level passed.apart m w m-in)

@@ -25,7 +25,8 @@ use Rattle.grade.proofs.Axes.{three}
 use Rattle.grade.specs.InUse.{in_use}
 use Rattle.gyroid.specs.declared.Gyroid.{Gyroid}
 use Rattle.gyroid.specs.Residual.{radius}
-use Rattle.gyroid.specs.Numbers.{second_of}
+use Rattle.gyroid.specs.Parts
+use Rattle.gyroid.specs.FunctionsInUse.{second_of}
 use Rattle.gyroid.proofs.CentreLaws.{tick_exact}
 use Rattle.gyroid.proofs.AlikeLaws.{point_same, greatest_same, second_alike}
 
@@ -77,7 +78,7 @@ module _ (ar : Arithmetic) where
 
 -- three pairs of radii of one value
 pub second_spans : (g : Gyroid) {x y z u v w : Float} → Same 13 x u → Same 13 y v → Same 13 z w → second_of g x y z ≡ second_of g u v w
-unfolding second_of
+unfolding Parts.second_of
 second_spans g {x} {y} {z} {u} {v} {w} p q r =
     let a : List Interval = point x ∷ point y ∷ point z ∷ [] in
     let b : List Interval = point u ∷ point v ∷ point w ∷ [] in

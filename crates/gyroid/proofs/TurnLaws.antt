@@ -9,6 +9,7 @@ use lib.IntN.{ℤ, pos, nat_abs}
 use lib.Signed.{le_z_yes}
 use lib.Ieee.{neg, lt, of_bits}
 use lib.Ieee.Scale.{finite}
+use Rattle.std.specs.Prelude.{Option, Some, None}
 use Rattle.exact.specs.Fraction.{Fraction, ratio, whole, ◌+F◌, ◌-F◌, ◌*F◌, ◌/F◌, neg_f, ◌≤F◌, ◌≈F◌, AbsF}
 use Rattle.exact.proofs.Ring.{lit, ◌⊕◌, ◌⊗◌}
 use Rattle.exact.proofs.FractionRing.{ring_f}
@@ -31,10 +32,9 @@ use Rattle.interval.proofs.Encloses.{add_encloses, sub_encloses, mul_encloses, n
 use Rattle.interval.proofs.Bounds.{symmetric_encloses}
 use Rattle.grade.proofs.EntryLaws.{not_either}
 use Rattle.gyroid.specs.declared.Description.{Description}
-use Rattle.gyroid.specs.declared.Turn.{Turn}
+use Rattle.gyroid.specs.declared.Circle.{Circle}
 use Rattle.gyroid.specs.Leaf.{leaf}
-use Rattle.gyroid.specs.Turn as float
-use Rattle.gyroid.specs.Turn.{turn, reducible, reduced, beyond, horner, symmetric, sine_at, cosine_at}
+use Rattle.gyroid.specs.Turn.{turn, turned, reducible, reduced, beyond, horner, symmetric, sine_at, cosine_at, circle_at}
 use Rattle.gyroid.specs.Admitted.{polynomial, sine_polynomial, cosine_polynomial, sine_tail, cosine_tail, turned_by}
 
 -- ---- `two_pi`
@@ -107,15 +107,24 @@ tail_in : (n : ℕ) {e : Fraction} → AbsF e (tail n) → In 1 e (symmetric (ta
 tail_in n h = let (above, small) = tail_above n in symmetric_encloses (tail_up n) small (abs_wider h above)
 
 -- ---- a turn that is found holds a sine and a cosine
-abbrev pub Sound : Turn → Fraction × Fraction → Type 0
-Sound (Turn.Found s c) x = In 36 x.0 s × In 36 x.1 c
-Sound Turn.None x = Unit {0}
+abbrev pub Sound : Option Circle → Fraction × Fraction → Type 0
+Sound (Some r) x = In 36 x.0 r.sine × In 36 x.1 r.cosine
+Sound None x = Unit {0}
 
-turned_in : (n : ℕ) {s c : Fraction} {S C : Interval} → In 36 s S → In 36 c C → Sound (float.turned n S C) (turned_by n s c)
-unfolding turned_by float.turned
-turned_in n {s} {c} {S} {C} h k = go (eqb n 0) (eqb n 1) (eqb n 2)
+turned_in : (n : ℕ) {s c : Fraction} {r : Circle} → In 36 s r.sine → In 36 c r.cosine → Sound (Some (turned n r)) (turned_by n s c)
+unfolding turned_by turned
+turned_in n {s} {c} {r} h k = go (eqb n 0) (eqb n 1) (eqb n 2)
   where
-    go : (x y z : Bool) → Sound (cond x (Turn.Found S C) (cond y (Turn.Found C (negation S)) (cond z (Turn.Found (negation S) (negation C)) (Turn.Found (negation C) S)))) (cond x (s, c) (cond y (c, neg_f s) (cond z (neg_f s, neg_f c) (neg_f c, s))))
+    one : Circle
+    one = record { sine = r.cosine; cosine = negation r.sine }
+
+    two : Circle
+    two = record { sine = negation r.sine; cosine = negation r.cosine }
+
+    three : Circle
+    three = record { sine = negation r.cosine; cosine = r.sine }
+
+    go : (x y z : Bool) → Sound (Some (cond x r (cond y one (cond z two three)))) (cond x (s, c) (cond y (c, neg_f s) (cond z (neg_f s, neg_f c) (neg_f c, s))))
     go true y z = (h, k)
     go false true z = (k, neg_encloses h)
     go false false true = (neg_encloses h, neg_encloses k)
@@ -163,11 +172,11 @@ module _ (ar : Arithmetic) where
     cosine_in h = wider 36 tt (add_encloses ar tt (horner_in cosine_term cosine_encloses (square_encloses tt h)) (tail_in 18 f-within))
 
     pub turn_holds : Sound (turn ar (leaf ar d) I) (turned_by (mod_four (quarter_number (mid I))) (sine_polynomial u +F e) (cosine_polynomial u +F f))
-    unfolding turn leaf
+    unfolding turn circle_at leaf
     turn_holds = go (not (reducible I)) (beyond U) (λ near. near_in (reduced_in h between) near)
       where
         go : (x y : Bool) → (T (not y) → In 0 u U)
-            → Sound (cond x Turn.None (cond y Turn.None (float.turned (mod_four (quarter_number (mid I))) (sine_at ar (leaf ar d) U) (cosine_at ar (leaf ar d) U))))
+            → Sound (cond x None (cond y None (Some (turned (mod_four (quarter_number (mid I))) (circle_at ar (leaf ar d) U)))))
             (turned_by (mod_four (quarter_number (mid I))) (sine_polynomial u +F e) (cosine_polynomial u +F f))
         go true y n = tt
         go false true n = tt

@@ -12,9 +12,13 @@ use Rattle.gyroid.specs.declared.Description.{Description}
 unfoldable pub frame_in_limits : Frame → Bool
 frame_in_limits f = tick f.w && tick f.x && tick f.y && tick f.z && ticks f.translation
 
--- "kind (0 network, 1 sheet)", "Limits bind unused entries too."; and "Refusal 1 now admits kind 2."
+-- "kind (0 network, 1 sheet)", and "Refusal 1 now admits kind 2."
+abbrev pub kind : ℤ → Bool
+kind z = le_z (pos 0) z && le_z z (pos 2)
+
+-- "Limits bind unused entries too."
 unfoldable pub in_limits : Description → Bool
-in_limits d = tick d.period && le_z (pos 0) d.kind && le_z d.kind (pos 2) && grade.in_limits d.level && frame_in_limits d.frame
+in_limits d = tick d.period && kind d.kind && grade.in_limits d.level && frame_in_limits d.frame
 
 abbrev pub origin : List ℤ
 origin = pos 0 ∷ pos 0 ∷ pos 0 ∷ []

@@ -4,14 +4,12 @@ use Rattle.interval.specs.declared.Interval.{Interval}
 use Rattle.interval.specs.Interval.{Arithmetic, two_pi, product, square}
 use Rattle.interval.specs.Nearest.{nearest, from_rational}
 use Rattle.interval.specs.Series.{sine_term, cosine_term, nine, tail_up}
-use Rattle.grade.specs.declared.Linear.{Linear}
-use Rattle.grade.specs.declared.LevelKind.{LevelKind}
 use Rattle.grade.specs.declared.GradeDef.{GradeDef}
 use Rattle.grade.specs.declared.Slope.{Slope}
 use Rattle.grade.specs.Grade.{eq_z}
 use Rattle.grade.specs.Exact.{compiled}
 use Rattle.grade.specs.Certified.{slope_bound}
-use Rattle.grade.specs.Intervals.{unit, grade_intervals}
+use Rattle.grade.specs.Intervals.{grade_intervals}
 use Rattle.grade.specs.Fast.{near}
 use Rattle.gyroid.specs.declared.Surface.{Surface}
 use Rattle.gyroid.specs.declared.Surface.TheVariants.{Network, Primitive}
@@ -23,12 +21,9 @@ abbrev pub surface_of : ℤ → Surface
 surface_of kind = cond (eq_z kind (pos 2)) Primitive Network
 
 -- the level of a constant; a ramp has 0 here, which nothing reads
-abbrev pub level_by : LevelKind → Linear → ℤ
-level_by LevelKind.Constant g = g.start
-level_by LevelKind.Linear g = pos 0
-
 abbrev pub constant_level : GradeDef → ℤ
-constant_level g = level_by g.kind g.linear
+constant_level (GradeDef.Constant c) = c
+constant_level (GradeDef.Linear l) = pos 0
 
 -- an upper bound of the gradient's size: 22/a and the slope, over one denominator. A period of p ticks is p/1024 mm
 abbrev pub lipschitz_top : ℤ → Slope → ℤ
@@ -56,7 +51,6 @@ module _ (ar : Arithmetic) where
     two_pi = two_pi;
     wave = wave d;
     wave_squared = square (wave d);
-    interval_level = unit (constant_level (compiled d.level));
     sine = nine sine_term;
     cosine = nine cosine_term;
     tail_sine = tail_up 19;

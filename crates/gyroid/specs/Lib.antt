@@ -13,8 +13,6 @@ pub mod Settles
 -- what the layer's functions ask of their arguments, and the constructors
 pub mod Fits
 pub mod Constructors
--- intervals, parts and leaves in lent numbers
-pub mod Numbers
 -- all of it at the arithmetic in use
 pub mod InUse
 pub mod FunctionsInUse

@@ -1,21 +1,17 @@
 -- `expansion`, `residual`, `affine_residual` and `box_state`: "follow the Rust's order of operations". What adds is stated of either
 -- arithmetic. Definitions only; assumes nothing.
-use Rattle.std.specs.Prelude.{cond, not, List, [], ◌∷◌, ℕ, Float}
+use Rattle.std.specs.Prelude.{cond, not, List, [], ◌∷◌, ℕ, Float, Option, Some, None, option_map}
 use Rattle.std.specs.Float.Ieee.{lt}
 use Rattle.interval.specs.declared.Interval.{Interval}
 use Rattle.interval.specs.Step.{b64}
 use Rattle.interval.specs.Interval.{Arithmetic, point, greatest, sum, difference, product, square, mid, magnitude}
-use Rattle.grade.specs.declared.LevelKind.{LevelKind}
 use Rattle.grade.specs.declared.Piece.{Piece}
 use Rattle.grade.specs.declared.Piece.TheVariants.{Start, Ramp, End}
-use Rattle.grade.specs.declared.PieceAnswer.{PieceAnswer}
 use Rattle.grade.specs.declared.GradeIntervals.{GradeIntervals}
 use Rattle.grade.specs.Intervals.{box_at, zero, zeros, interval, affine, gradient, piece_gradient, piece}
 use Rattle.gyroid.specs.declared.Surface.{Surface}
 use Rattle.gyroid.specs.declared.Gyroid.{Gyroid}
 use Rattle.gyroid.specs.declared.Jet.{Jet}
-use Rattle.gyroid.specs.declared.Residual.{Residual}
-use Rattle.gyroid.specs.declared.Residual.TheVariants.{Enclosure, None}
 use Rattle.gyroid.specs.declared.State.{State}
 use Rattle.gyroid.specs.declared.State.TheVariants.{Inside, Outside, Unsettled}
 use Rattle.gyroid.specs.Refusals.{all_finite}
@@ -30,13 +26,9 @@ centre w = point (mid (box_at w 0)) ∷ point (mid (box_at w 1)) ∷ point (mid 
 unfoldable pub reach : Interval → Interval → Interval
 reach d r = product (point (magnitude d)) r
 
--- "Answers are an enclosure or none."
-abbrev pub held : Interval → Residual
-held v = Enclosure v.lo v.hi
-
--- "`box_state`: outside if lo > 0, inside if hi < 0, otherwise unsettled."
-abbrev pub state_of : Residual → State
-state_of (Enclosure lo hi) = cond (lt (b64 0) lo) Outside (cond (lt hi (b64 0)) Inside Unsettled)
+-- "Answers are an enclosure or none": an `Option Interval`. "`box_state`: outside if lo > 0, inside if hi < 0, otherwise unsettled."
+abbrev pub state_of : Option Interval → State
+state_of (Some v) = cond (lt (b64 0) v.lo) Outside (cond (lt v.hi (b64 0)) Inside Unsettled)
 state_of None = Unsettled
 
 -- the table's numbers: "1 inside, 2 outside, 3 unsettled"
@@ -77,12 +69,13 @@ module _ (ar : Arithmetic) where
   abbrev pub about_centre : Interval → Interval → List Interval → Interval → List Interval → List Interval → Interval
   about_centre q value gradient level slope r = sum ar (difference ar value level) (symmetric (bound q (minus ar gradient slope) r))
 
-  unfoldable pub expanded : Interval → Jet → Interval → List Interval → List Interval → Residual
-  expanded q j level slope r = cond (not j.found) None (held (about_centre q j.value j.gradient level slope r))
+  abbrev pub expanded : Interval → Interval → List Interval → List Interval → Jet → Interval
+  expanded q level slope r j = about_centre q j.value j.gradient level slope r
 
-  unfoldable pub expansion : Gyroid → List Interval → Interval → List Interval → Residual
+  unfoldable pub expansion : Gyroid → List Interval → Interval → List Interval → Option Interval
   expansion g w level slope =
-      cond (not (all_finite w)) None (expanded (second_order g.surface g.wave_squared (radii w)) (jet ar g (centre w)) level slope (radii w))
+      cond (not (all_finite w)) None
+      (option_map (expanded (second_order g.surface g.wave_squared (radii w)) level slope (radii w)) (jet ar g (centre w)))
 
   -- ---- the choice of the level by piece
   abbrev pub level_at : GradeIntervals → Piece → List Interval → Interval
@@ -90,29 +83,21 @@ module _ (ar : Arithmetic) where
   level_at g Ramp m = affine ar g m
   level_at g End m = interval ar g m
 
-  abbrev pub less_level : Residual → Interval → Residual
-  less_level (Enclosure lo hi) level = held (difference ar (record { lo = lo; hi = hi }) level)
-  less_level None level = None
+  abbrev pub less_level : Option Interval → Interval → Option Interval
+  less_level r level = option_map (λ v. difference ar v level) r
 
   -- across an anchor plane: the expansion without a level, less the level's range over the box
-  abbrev pub residual_on : PieceAnswer → Gyroid → List Interval → Residual
-  residual_on (PieceAnswer.Found p) g w = expansion g w (level_at g.intervals p (centre w)) (piece_gradient g.intervals p)
-  residual_on PieceAnswer.None g w = less_level (expansion g w zero zeros) (interval ar g.intervals w)
+  abbrev pub residual_on : Option Piece → Gyroid → List Interval → Option Interval
+  residual_on (Some p) g w = expansion g w (level_at g.intervals p (centre w)) (piece_gradient g.intervals p)
+  residual_on None g w = less_level (expansion g w zero zeros) (interval ar g.intervals w)
 
-  abbrev pub residual_by : LevelKind → Gyroid → List Interval → Residual
-  residual_by LevelKind.Constant g w = expansion g w g.interval_level zeros
-  residual_by LevelKind.Linear g w = residual_on (piece ar g.intervals w) g w
+  -- a constant level is of the piece Start, which has its level and no gradient
+  unfoldable pub residual : Gyroid → List Interval → Option Interval
+  residual g w = residual_on (piece ar g.intervals w) g w
 
-  unfoldable pub residual : Gyroid → List Interval → Residual
-  residual g w = residual_by g.intervals.kind g w
-
-  -- with the level's affine extension
-  abbrev pub affine_by : LevelKind → Gyroid → List Interval → Residual
-  affine_by LevelKind.Constant g w = expansion g w g.interval_level zeros
-  affine_by LevelKind.Linear g w = expansion g w (affine ar g.intervals (centre w)) (gradient g.intervals)
-
-  unfoldable pub affine_residual : Gyroid → List Interval → Residual
-  affine_residual g w = affine_by g.intervals.kind g w
+  -- with the level's affine extension, which of a constant level is that level without a gradient
+  unfoldable pub affine_residual : Gyroid → List Interval → Option Interval
+  affine_residual g w = expansion g w (affine ar g.intervals (centre w)) (gradient g.intervals)
 
   -- ---- the state
   unfoldable pub box_state : Gyroid → List Interval → State

@@ -1,6 +1,6 @@
 -- `turn`: sine and cosine of one turn coordinate, in the original's order of operations. Document 01's words stand in quotes. What adds is
 -- stated of either arithmetic. Definitions only; assumes nothing.
-use Rattle.std.specs.Prelude.{Bool, cond, not, ◌&&◌, ◌||◌, List, ℕ, zero, suc, ◌-◌, eqb, ℤ, Float}
+use Rattle.std.specs.Prelude.{Bool, cond, not, ◌&&◌, ◌||◌, List, ℕ, zero, suc, ◌-◌, eqb, ℤ, Float, Option, Some, None}
 use Rattle.std.specs.Float.Ieee.{neg, lt}
 use Rattle.interval.specs.declared.Interval.{Interval}
 use Rattle.interval.specs.Step.{b64}
@@ -9,8 +9,7 @@ use Rattle.interval.specs.Nearest.{nearest}
 use Rattle.interval.specs.Floor.{quarter_number, mod_four}
 use Rattle.grade.specs.Intervals.{box_at}
 use Rattle.gyroid.specs.declared.Gyroid.{Gyroid}
-use Rattle.gyroid.specs.declared.Turn.{Turn}
-use Rattle.gyroid.specs.declared.Turn.TheVariants.{Found, None}
+use Rattle.gyroid.specs.declared.Circle.{Circle}
 
 -- 2^40
 abbrev pub largest_turn : Float
@@ -33,12 +32,12 @@ abbrev pub symmetric : Float → Interval
 symmetric x = record { lo = neg x; hi = x }
 
 -- "turned by q mod 4"
-unfoldable pub turned : ℕ → Interval → Interval → Turn
-turned m s c =
-    cond (eqb m 0) (Found s c)
-    (cond (eqb m 1) (Found c (negation s))
-    (cond (eqb m 2) (Found (negation s) (negation c))
-    (Found (negation c) s)))
+unfoldable pub turned : ℕ → Circle → Circle
+turned m c =
+    cond (eqb m 0) c
+    (cond (eqb m 1) (record { sine = c.cosine; cosine = negation c.sine })
+    (cond (eqb m 2) (record { sine = negation c.sine; cosine = negation c.cosine })
+    (record { sine = negation c.cosine; cosine = c.sine })))
 
 -- ---- what adds
 module _ (ar : Arithmetic) where
@@ -58,8 +57,11 @@ module _ (ar : Arithmetic) where
   unfoldable pub cosine_at : Gyroid → Interval → Interval
   cosine_at g u = sum ar (horner g.cosine (square u) 8) (symmetric g.tail_cosine)
 
-  unfoldable pub turn : Gyroid → Interval → Turn
+  unfoldable pub circle_at : Gyroid → Interval → Circle
+  circle_at g u = record { sine = sine_at g u; cosine = cosine_at g u }
+
+  unfoldable pub turn : Gyroid → Interval → Option Circle
   turn g t =
       let q = quarter_of t in
       let u = reduced t q g.two_pi in
-      cond (not (reducible t)) None (cond (beyond u) None (turned (mod_four q) (sine_at g u) (cosine_at g u)))
+      cond (not (reducible t)) None (cond (beyond u) None (Some (turned (mod_four q) (circle_at g u))))

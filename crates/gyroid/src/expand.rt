@@ -1,12 +1,12 @@
 // The surface over a box less a level, to second order about the centre.
 ghost use Rattle.std.specs.Prelude.{◌≡◌};
-ghost use Rattle.gyroid.specs.Residual.{centre, reach, held};
+ghost use Rattle.gyroid.specs.Residual.{centre, reach};
 ghost use Rattle.gyroid.specs.InUse.{radii};
 ghost use Rattle.gyroid.specs.FunctionsInUse.{radius, spread, bracket_at, bound, about_centre};
 
+use crate::Surface;
 use crate::jets::minus;
 use crate::turns::symmetric;
-use crate::{Residual, Surface};
 use interval::Interval;
 use interval::outward::larger;
 use interval::sums::difference_high;
@@ -15,10 +15,7 @@ use interval::sums::difference_high;
 pub fn centre(w: [Interval; 3]) -> [Interval; 3]
     ensures { result ≡ centre w }
 {
-    let x = Interval::point(w[0].mid());
-    let y = Interval::point(w[1].mid());
-    let z = Interval::point(w[2].mid());
-    [x, y, z]
+    w.map(|b| Interval::point(b.mid()))
 }
 
 // The half-width of an interval.
@@ -36,57 +33,50 @@ pub fn radius(b: Interval) -> f64
 pub fn radii(w: [Interval; 3]) -> [Interval; 3]
     ensures { result ≡ radii w }
 {
-    let x = Interval::point(radius(w[0]));
-    let y = Interval::point(radius(w[1]));
-    let z = Interval::point(radius(w[2]));
-    [x, y, z]
+    w.map(|b| Interval::point(radius(b)))
 }
 
 #[tactic(auto, unfolding(crate::specs::Residual::reach))]
+#[inline(always)]
 fn reach(d: Interval, r: Interval) -> Interval
     ensures { result ≡ reach d r }
 {
-    Interval::point(d.magnitude()).mul(r)
+    Interval::point(d.magnitude()) * r
 }
 
-// How far the first-order term reaches, for a gradient d and half-widths r.
+// How far the first-order term reaches, for a gradient d and half-widths r. Axis by axis: of two arrays an iterator is no plainer.
 #[tactic(auto, unfolding(crate::specs::Residual::spread))]
+#[inline(always)]
 fn spread(d: [Interval; 3], r: [Interval; 3]) -> Interval
     ensures { result ≡ spread d r }
 {
-    let x = reach(d[0], r[0]);
-    let y = reach(d[1], r[1]);
-    let z = reach(d[2], r[2]);
-    Interval::point(0.0).add(x).add(y).add(z)
+    Interval::point(0.0) + reach(d[0], r[0]) + reach(d[1], r[1]) + reach(d[2], r[2])
 }
 
 // The half-widths' part of the quadratic term of Taylor's theorem.
 #[tactic(auto, unfolding(crate::specs::Residual::bracket_at))]
+#[inline(always)]
 pub fn bracket_at(surface: Surface, x: Interval, y: Interval, z: Interval) -> Interval
     ensures { result ≡ bracket_at surface x y z }
 {
-    let squares = x.square().add(y.square()).add(z.square());
+    let squares = x.square() + y.square() + z.square();
     match surface {
-        Surface::Network => squares.add(x.mul(y)).add(y.mul(z)).add(z.mul(x)),
-        Surface::Primitive => squares.mul(Interval::point(0.5)),
+        Surface::Network => squares + x * y + y * z + z * x,
+        Surface::Primitive => squares * Interval::point(0.5),
     }
 }
 
 #[tactic(auto, unfolding(crate::specs::Residual::bound))]
+#[inline(always)]
 fn bound(second: Interval, d: [Interval; 3], r: [Interval; 3]) -> f64
     ensures { result ≡ bound second d r }
 {
-    spread(d, r).add(second).hi
-}
-
-pub fn held(v: Interval) -> Residual
-    ensures { result ≡ held v }
-{
-    Residual::Enclosure { lo: v.lo, hi: v.hi }
+    (spread(d, r) + second).hi
 }
 
 // The surface over a box, of this second-order term and this value and gradient at the centre, less a level that is `level` there and has the
 // gradient `slope`.
+#[inline(always)]
 pub fn about_centre(
     second: Interval,
     value: Interval,
@@ -98,5 +88,5 @@ pub fn about_centre(
     ensures { result ≡ about_centre second value gradient level slope r }
 {
     let reach = bound(second, minus(gradient, slope), r);
-    value.sub(level).add(symmetric(reach))
+    value - level + symmetric(reach)
 }

@@ -1,104 +1,68 @@
 // `jet` and `affine_jet`: the surface's value and gradient at a point, and the same less the level's affine extension.
 ghost use Rattle.std.specs.Prelude.{◌≡◌};
-ghost use Rattle.gyroid.specs.Jet.{no_jet};
 ghost use Rattle.gyroid.specs.InUse.{waves, gradient_at, jet, minus, affine_jet};
 ghost use Rattle.gyroid.specs.FunctionsInUse.{value_at, entry_at, less};
 
-use crate::{Gyroid, Jet, Surface, Turn, Waves};
+use crate::{Circle, Gyroid, Jet, Surface, Waves};
 use interval::Interval;
 
 #[tactic(auto, unfolding(crate::specs::Jet::value_at))]
-pub fn value_at(
-    surface: Surface,
-    sx: Interval,
-    cx: Interval,
-    sy: Interval,
-    cy: Interval,
-    sz: Interval,
-    cz: Interval,
-) -> Interval
-    ensures { result ≡ value_at surface sx cx sy cy sz cz }
+#[inline(always)]
+pub fn value_at(surface: Surface, w: &Waves) -> Interval
+    ensures { result ≡ value_at surface w.now }
 {
     match surface {
-        Surface::Network => sx.mul(cy).add(sy.mul(cz)).add(sz.mul(cx)),
-        Surface::Primitive => cx.add(cy).add(cz),
+        Surface::Network => w.x.sine * w.y.cosine + w.y.sine * w.z.cosine + w.z.sine * w.x.cosine,
+        Surface::Primitive => w.x.cosine + w.y.cosine + w.z.cosine,
     }
 }
 
-// The gradient's entry on an axis, from the axis' sine and cosine, the cosine of the axis after it and the sine of the one before.
+// The gradient's entry on an axis, from the axis' own sine and cosine, the cosine of the axis after it and the sine of the one before.
 #[tactic(auto, unfolding(crate::specs::Jet::entry_at))]
+#[inline(always)]
 fn entry_at(
     surface: Surface,
-    sine: Interval,
-    cosine: Interval,
+    own: Circle,
     after: Interval,
     before: Interval,
     k: Interval,
 ) -> Interval
-    ensures { result ≡ entry_at surface sine cosine after before k }
+    ensures { result ≡ entry_at surface own after before k }
 {
     match surface {
-        Surface::Network => cosine.mul(after).sub(before.mul(sine)).mul(k),
-        Surface::Primitive => sine.neg().mul(k),
+        Surface::Network => (own.cosine * after - before * own.sine) * k,
+        Surface::Primitive => -own.sine * k,
     }
 }
 
 #[tactic(auto, unfolding(crate::specs::Jet::gradient_at))]
-pub fn gradient_at(
-    surface: Surface,
-    sx: Interval,
-    cx: Interval,
-    sy: Interval,
-    cy: Interval,
-    sz: Interval,
-    cz: Interval,
-    k: Interval,
-) -> [Interval; 3]
-    ensures { result ≡ gradient_at surface sx cx sy cy sz cz k }
+#[inline(always)]
+pub fn gradient_at(surface: Surface, w: &Waves, k: Interval) -> [Interval; 3]
+    ensures { result ≡ gradient_at surface w.now k }
 {
-    let x = entry_at(surface, sx, cx, cy, sz, k);
-    let y = entry_at(surface, sy, cy, cz, sx, k);
-    let z = entry_at(surface, sz, cz, cx, sy, k);
+    let x = entry_at(surface, w.x, w.y.cosine, w.z.sine, k);
+    let y = entry_at(surface, w.y, w.z.cosine, w.x.sine, k);
+    let z = entry_at(surface, w.z, w.x.cosine, w.y.sine, k);
     [x, y, z]
 }
 
+// Axis by axis: of two arrays an iterator is no plainer.
 #[tactic(auto, unfolding(crate::specs::Jet::minus))]
+#[inline(always)]
 pub fn minus(a: [Interval; 3], b: [Interval; 3]) -> [Interval; 3]
     ensures { result ≡ minus a b }
 {
-    let x = a[0].sub(b[0]);
-    let y = a[1].sub(b[1]);
-    let z = a[2].sub(b[2]);
-    [x, y, z]
+    [a[0] - b[0], a[1] - b[1], a[2] - b[2]]
 }
 
 impl Jet {
-    // Nothing found, with 0 or the number of the refusal.
-    pub fn none(refusal: u32) -> Jet
-        ensures { result ≡ no_jet refusal }
-    {
-        let zero = Interval::point(0.0);
-        let gradient = [zero, zero, zero];
-        Jet {
-            refusal,
-            found: false,
-            value: zero,
-            gradient,
-        }
-    }
-
     #[tactic(auto, unfolding(crate::specs::Jet::less))]
     fn less(self, level: Interval, slope: [Interval; 3]) -> Jet
         ensures { result ≡ less self level slope }
     {
-        if !self.found {
-            return Jet::none(0);
-        }
         let gradient = self.gradient;
         Jet {
-            refusal: 0,
-            found: true,
-            value: self.value.sub(level),
+            value: self.value - level,
             gradient: minus(gradient, slope),
         }
     }
@@ -106,45 +70,32 @@ impl Jet {
 
 impl Gyroid {
     #[tactic(auto, unfolding(crate::specs::Jet::waves))]
-    pub fn waves(self, p: [Interval; 3]) -> Waves
-        ensures { result ≡ waves self p }
+    pub fn waves(&self, p: [Interval; 3]) -> Option<Waves>
+        ensures { result ≡ waves self.now p }
     {
         let k = self.turns;
-        let Turn::Found(sx, cx) = self.turn(p[0].mul(k)) else {
-            return Waves::None;
-        };
-        let Turn::Found(sy, cy) = self.turn(p[1].mul(k)) else {
-            return Waves::None;
-        };
-        let Turn::Found(sz, cz) = self.turn(p[2].mul(k)) else {
-            return Waves::None;
-        };
-        Waves::Found(sx, cx, sy, cy, sz, cz)
+        let x = self.turn(p[0] * k)?;
+        let y = self.turn(p[1] * k)?;
+        let z = self.turn(p[2] * k)?;
+        Some(Waves { x, y, z })
     }
 
     #[tactic(auto, unfolding(crate::specs::Jet::jet))]
-    pub fn jet(self, p: [Interval; 3]) -> Jet
-        ensures { result ≡ jet self p }
+    pub fn jet(&self, p: [Interval; 3]) -> Option<Jet>
+        ensures { result ≡ jet self.now p }
     {
-        let Waves::Found(sx, cx, sy, cy, sz, cz) = self.waves(p) else {
-            return Jet::none(0);
-        };
-        let surface = self.surface;
-        Jet {
-            refusal: 0,
-            found: true,
-            value: value_at(surface, sx, cx, sy, cy, sz, cz),
-            gradient: gradient_at(surface, sx, cx, sy, cy, sz, cz, self.wave),
-        }
+        let w = self.waves(p)?;
+        Some(Jet {
+            value: value_at(self.surface, &w),
+            gradient: gradient_at(self.surface, &w, self.wave),
+        })
     }
 
     #[tactic(auto, unfolding(crate::specs::Jet::affine_jet))]
-    pub fn affine_jet(self, p: [Interval; 3]) -> Jet
-        ensures { result ≡ affine_jet self p }
+    pub fn affine_jet(&self, p: [Interval; 3]) -> Option<Jet>
+        ensures { result ≡ affine_jet self.now p }
     {
-        let levels = self.intervals;
-        let level = levels.affine(p);
-        let slope = levels.gradient();
-        self.jet(p).less(level, slope)
+        let jet = self.jet(p)?;
+        Some(jet.less(self.intervals.affine(p), self.intervals.gradient()))
     }
 }

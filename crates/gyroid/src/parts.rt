@@ -1,14 +1,16 @@
-// `residual` one axis at a time: what an axis gives depends on the side of the box there alone, so that a walk can remember it.
-ghost use Rattle.std.specs.Prelude.{◌≡◌, ◌<◌};
-ghost use Rattle.gyroid.specs.Parts.{no_shares, no_part, held_on};
-ghost use Rattle.gyroid.specs.FunctionsInUse.{expansion, shares, part, about_at, level_about, joined_about, joined_of, joined};
+// `residual` one axis at a time: what an axis gives depends on the side of the box there alone, so that a walk can remember it. Parts and leaf are
+// read where they stand, behind references.
+ghost use Rattle.std.specs.Prelude.{◌≡◌, ◌<◌, Some};
+ghost use Rattle.gyroid.specs.Parts.{no_shares, held_on};
+ghost use Rattle.gyroid.specs.Residual.{state_of};
+ghost use Rattle.gyroid.specs.FunctionsInUse.{expansion, second_of, shares, part, level_about, joined_about, joined_of, joined};
 
-use crate::expand::{about_centre, bracket_at, held, radius};
+use crate::expand::{about_centre, bracket_at, radius};
 use crate::floats::finite;
 use crate::jets::{gradient_at, value_at};
-use crate::{Gyroid, LevelAbout, Part, Residual, Shares, Surface, Turn};
-use grade::intervals::{along, divided, piece_of, risen, zeros};
-use grade::{GradeIntervals, LevelKind, Piece, PieceAnswer};
+use crate::{Gyroid, LevelAbout, Part, Shares, State, Waves};
+use grade::intervals::{piece_of, zeros};
+use grade::{GradeIntervals, Piece};
 use interval::Interval;
 
 impl Shares {
@@ -23,40 +25,18 @@ impl Shares {
     }
 }
 
-// The kind is told first: a constant level's shares cost no copy of the linear level's numbers.
-#[tactic(auto, using(grade::proofs::IntervalLaws::along_axis_is), unfolding(crate::specs::Parts::shares))]
-fn shares(levels: GradeIntervals, axis: usize, b: Interval, m: Interval) -> Shares
+// Here and in `part` an axis is a number, a place in the array of a box, as document 01's `planes` answers it.
+#[tactic(auto, unfolding(crate::specs::Parts::shares))]
+fn shares(levels: &GradeIntervals, axis: usize, b: Interval, m: Interval) -> Shares
     requires { axis < 3 }
-    ensures { result ≡ shares levels axis b m }
+    ensures { result ≡ shares levels.now axis b m }
 {
-    let kind = levels.kind;
-    match kind {
-        LevelKind::Constant => Shares::none(),
-        LevelKind::Linear => {
-            let from = levels.linear.from;
-            let direction = levels.linear.direction;
-            let f = from[axis];
-            let d = direction[axis];
-            Shares {
-                along: along(b, f, d),
-                middle: along(m, f, d),
-            }
-        }
-    }
-}
-
-impl Part {
-    fn none() -> Part
-        ensures { result ≡ no_part }
-    {
-        let zero = Interval::point(0.0);
-        Part {
-            found: false,
-            radius: 0.0,
-            sine: zero,
-            cosine: zero,
-            shares: Shares::none(),
-        }
+    match levels {
+        GradeIntervals::Constant(_) => Shares::none(),
+        GradeIntervals::Linear(linear) => Shares {
+            along: linear.along_axis(axis, b),
+            middle: linear.along_axis(axis, m),
+        },
     }
 }
 
@@ -65,173 +45,141 @@ pub fn held_on(piece: Piece, m: Interval) -> Interval
     ensures { result ≡ held_on piece m }
 {
     match piece {
-        Piece::Start => m.clamp01(),
         Piece::Ramp => m,
-        Piece::End => m.clamp01(),
+        Piece::Start | Piece::End => m.clamp01(),
     }
 }
 
-// The linear level about the centre, where t is m, of a box that has t.
-#[tactic(auto, using(grade::proofs::IntervalLaws::level_of_is))]
-fn about_at(levels: GradeIntervals, t: Interval, m: Interval) -> LevelAbout
-    ensures { result ≡ about_at levels t m }
+// The level about the centre of the box that has these shares. t is formed once, for the piece and for the range.
+#[tactic(auto, unfolding(crate::specs::Parts::level_about))]
+#[inline(always)]
+fn level_about(levels: &GradeIntervals, x: Shares, y: Shares, z: Shares) -> LevelAbout
+    ensures { result ≡ level_about levels.now x y z }
 {
-    let start = levels.linear.start;
-    let rise = levels.linear.rise;
-    let zero = Interval::point(0.0);
-    match piece_of(t) {
-        PieceAnswer::Found(piece) => LevelAbout {
-            at: risen(start, rise, held_on(piece, m)),
-            slope: levels.piece_gradient(piece),
-            across: false,
-            range: zero,
-        },
-        PieceAnswer::None => LevelAbout {
-            at: zero,
+    match levels {
+        GradeIntervals::Constant(level) => LevelAbout::OnePiece {
+            at: *level,
             slope: zeros(),
-            across: true,
-            range: risen(start, rise, t.clamp01()),
         },
-    }
-}
-
-// Of a constant level, whose interval `level` is, or of a linear one from its shares. t is formed once, for the piece and for the range.
-#[tactic(auto, using(grade::proofs::IntervalLaws::parameter_of_is), unfolding(crate::specs::Parts::level_about))]
-fn level_about(
-    levels: GradeIntervals,
-    level: Interval,
-    x: Shares,
-    y: Shares,
-    z: Shares,
-) -> LevelAbout
-    ensures { result ≡ level_about levels level x y z }
-{
-    let kind = levels.kind;
-    match kind {
-        LevelKind::Constant => LevelAbout {
-            at: level,
-            slope: zeros(),
-            across: false,
-            range: Interval::point(0.0),
-        },
-        LevelKind::Linear => {
-            let length = levels.linear.length_sq;
-            let t = divided(x.along, y.along, z.along, length);
-            let m = divided(x.middle, y.middle, z.middle, length);
-            about_at(levels, t, m)
+        GradeIntervals::Linear(linear) => {
+            let t = linear.parameter_of(x.along, y.along, z.along);
+            let m = linear.parameter_of(x.middle, y.middle, z.middle);
+            match piece_of(t) {
+                Some(piece) => LevelAbout::OnePiece {
+                    at: linear.level_of(held_on(piece, m)),
+                    slope: levels.piece_gradient(piece),
+                },
+                None => LevelAbout::Across {
+                    range: linear.level_of(t.clamp01()),
+                },
+            }
         }
     }
-}
-
-// The surface less a level that is `level` at the centre and has the gradient `slope`; k is the wave and k2 its square.
-#[tactic(auto, unfolding(crate::specs::Parts::joined_about, crate::specs::Residual::second_order))]
-fn joined_about(
-    surface: Surface,
-    k: Interval,
-    k2: Interval,
-    x: Part,
-    y: Part,
-    z: Part,
-    level: Interval,
-    slope: [Interval; 3],
-) -> Interval
-    ensures { result ≡ joined_about surface k k2 x y z level slope }
-{
-    let value = value_at(
-        surface, x.sine, x.cosine, y.sine, y.cosine, z.sine, z.cosine,
-    );
-    let gradient = gradient_at(
-        surface, x.sine, x.cosine, y.sine, y.cosine, z.sine, z.cosine, k,
-    );
-    let rx = Interval::point(x.radius);
-    let ry = Interval::point(y.radius);
-    let rz = Interval::point(z.radius);
-    let second = k2.mul(bracket_at(surface, rx, ry, rz));
-    let r = [rx, ry, rz];
-    about_centre(second, value, gradient, level, slope, r)
-}
-
-// The residual over the box whose parts these are, from what it reads of the leaf.
-#[tactic(auto, unfolding(crate::specs::Parts::joined_of))]
-fn joined_of(
-    surface: Surface,
-    levels: GradeIntervals,
-    level: Interval,
-    k: Interval,
-    k2: Interval,
-    x: Part,
-    y: Part,
-    z: Part,
-) -> Residual
-    ensures { result ≡ joined_of surface levels level k k2 x y z }
-{
-    if !(x.found & y.found & z.found) {
-        return Residual::None;
-    }
-    let about = level_about(levels, level, x.shares, y.shares, z.shares);
-    let slope = about.slope;
-    let v = joined_about(surface, k, k2, x, y, z, about.at, slope);
-    if about.across {
-        return held(v.sub(about.range));
-    }
-    held(v)
 }
 
 impl Gyroid {
     #[tactic(auto, unfolding(crate::specs::Parts::part))]
-    pub fn part(self, axis: usize, b: Interval) -> Part
+    pub fn part(&self, axis: usize, b: Interval) -> Option<Part>
         requires { axis < 3 }
-        ensures { result ≡ part self axis b }
+        ensures { result ≡ part self.now axis b }
     {
         if !finite(b) {
-            return Part::none();
+            return None;
         }
         let m = Interval::point(b.mid());
-        let Turn::Found(sine, cosine) = self.turn(m.mul(self.turns)) else {
-            return Part::none();
-        };
-        let levels = self.intervals;
-        Part {
-            found: true,
+        let circle = self.turn(m * self.turns)?;
+        Some(Part {
             radius: radius(b),
-            sine,
-            cosine,
-            shares: shares(levels, axis, b, m),
+            circle,
+            shares: shares(&self.intervals, axis, b, m),
+        })
+    }
+
+    // The second-order term of a box of these half-widths.
+    #[tactic(auto, unfolding(crate::specs::Parts::second_of, crate::specs::Residual::second_order))]
+    pub fn second_order(&self, rx: f64, ry: f64, rz: f64) -> Interval
+        ensures { result ≡ second_of self.now rx ry rz }
+    {
+        let x = Interval::point(rx);
+        let y = Interval::point(ry);
+        let z = Interval::point(rz);
+        self.wave_squared * bracket_at(self.surface, x, y, z)
+    }
+
+    // The surface less a level that is `level` at the centre and has the gradient `slope`; `second` is the second-order term. Its clause
+    // stands three times: a walk remembers the term apart from the parts, and a struct of the four, made for each call, would be no plainer.
+    #[tactic(auto, unfolding(crate::specs::Parts::joined_about))]
+    #[inline(always)]
+    fn joined_about(
+        &self,
+        x: &Part,
+        y: &Part,
+        z: &Part,
+        second: Interval,
+        level: Interval,
+        slope: [Interval; 3],
+    ) -> Interval
+        requires { second ≡ second_of self.now x.now.radius y.now.radius z.now.radius }
+        ensures { result ≡ joined_about self.now x.now y.now z.now level slope }
+    {
+        let w = Waves {
+            x: x.circle,
+            y: y.circle,
+            z: z.circle,
+        };
+        let value = value_at(self.surface, &w);
+        let gradient = gradient_at(self.surface, &w, self.wave);
+        let r = [
+            Interval::point(x.radius),
+            Interval::point(y.radius),
+            Interval::point(z.radius),
+        ];
+        about_centre(second, value, gradient, level, slope, r)
+    }
+
+    // The residual over the box whose parts these are; `second` is its second-order term.
+    #[tactic(auto, unfolding(crate::specs::Parts::joined_of))]
+    #[inline(always)]
+    pub fn residual_of_parts(&self, x: &Part, y: &Part, z: &Part, second: Interval) -> Interval
+        requires { second ≡ second_of self.now x.now.radius y.now.radius z.now.radius }
+        ensures { result ≡ joined_of self.now x.now y.now z.now }
+    {
+        // Taken apart for one call of `joined_about`: with a call in each arm it is inlined twice, and a walk is 3% slower.
+        let zero = Interval::point(0.0);
+        let (at, slope, range) = match level_about(&self.intervals, x.shares, y.shares, z.shares) {
+            LevelAbout::OnePiece { at, slope } => (at, slope, None),
+            LevelAbout::Across { range } => (zero, zeros(), Some(range)),
+        };
+        let residual = self.joined_about(x, y, z, second, at, slope);
+        match range {
+            None => residual,
+            Some(range) => residual - range,
         }
     }
 
-    // The residual over the box whose parts these are.
-    pub fn joined(self, x: Part, y: Part, z: Part) -> Residual
-        ensures { result ≡ joined self x y z }
+    // The state of the box whose parts these are; `second` is its second-order term.
+    #[inline(always)]
+    pub fn state_of_parts(&self, x: &Part, y: &Part, z: &Part, second: Interval) -> State
+        requires { second ≡ second_of self.now x.now.radius y.now.radius z.now.radius }
+        ensures { result ≡ state_of (joined self.now (Some x.now) (Some y.now) (Some z.now)) }
     {
-        let surface = self.surface;
-        let levels = self.intervals;
-        joined_of(
-            surface,
-            levels,
-            self.interval_level,
-            self.wave,
-            self.wave_squared,
-            x,
-            y,
-            z,
-        )
+        State::of(Some(self.residual_of_parts(x, y, z, second)))
     }
 
     // The residual over a box of a level that is `level` at the centre and has the gradient `slope`.
     #[tactic(auto, using(crate::proofs::PartLaws::expansion_joined))]
-    pub fn expansion(self, world: [Interval; 3], level: Interval, slope: [Interval; 3]) -> Residual
-        ensures { result ≡ expansion self world level slope }
+    pub fn expansion(
+        &self,
+        world: [Interval; 3],
+        level: Interval,
+        slope: [Interval; 3],
+    ) -> Option<Interval>
+        ensures { result ≡ expansion self.now world level slope }
     {
-        let x = self.part(0, world[0]);
-        let y = self.part(1, world[1]);
-        let z = self.part(2, world[2]);
-        if !(x.found & y.found & z.found) {
-            return Residual::None;
-        }
-        let surface = self.surface;
-        let k = self.wave;
-        let k2 = self.wave_squared;
-        held(joined_about(surface, k, k2, x, y, z, level, slope))
+        let x = self.part(0, world[0])?;
+        let y = self.part(1, world[1])?;
+        let z = self.part(2, world[2])?;
+        let second = self.second_order(x.radius, y.radius, z.radius);
+        Some(self.joined_about(&x, &y, &z, second, level, slope))
     }
 }

@@ -4,59 +4,49 @@ ghost use Rattle.gyroid.specs.Residual.{state_of};
 ghost use Rattle.gyroid.specs.InUse.{residual, affine_residual, box_state};
 
 use crate::expand::centre;
-use crate::{Gyroid, Residual, State};
-use grade::LevelKind;
-use grade::intervals::zeros;
+use crate::{Gyroid, State};
 use interval::Interval;
 
-impl Residual {
-    // The mark that it gives its box.
-    pub fn state(self) -> State
-        ensures { result ≡ state_of self }
+impl State {
+    // The mark that a residual gives its box.
+    #[inline(always)]
+    pub fn of(residual: Option<Interval>) -> State
+        ensures { result ≡ state_of residual }
     {
-        let Residual::Enclosure { lo, hi } = self else {
-            return State::Unsettled;
-        };
-        if lo > 0.0 {
-            return State::Outside;
+        match residual {
+            Some(v) if v.lo > 0.0 => State::Outside,
+            Some(v) if v.hi < 0.0 => State::Inside,
+            _ => State::Unsettled,
         }
-        if hi < 0.0 {
-            return State::Inside;
-        }
-        State::Unsettled
     }
 }
 
 impl Gyroid {
-    #[tactic(auto, using(crate::proofs::PartLaws::joined_residual))]
-    pub fn residual(self, world: [Interval; 3]) -> Residual
-        ensures { result ≡ residual self world }
+    // Three parts by `?`, as in `expansion`: a function for the three would want a definition of its own, and is no plainer.
+    #[tactic(auto, using(crate::proofs::PartLaws::residual_joined))]
+    pub fn residual(&self, world: [Interval; 3]) -> Option<Interval>
+        ensures { result ≡ residual self.now world }
     {
-        let x = self.part(0, world[0]);
-        let y = self.part(1, world[1]);
-        let z = self.part(2, world[2]);
-        self.joined(x, y, z)
+        let x = self.part(0, world[0])?;
+        let y = self.part(1, world[1])?;
+        let z = self.part(2, world[2])?;
+        let second = self.second_order(x.radius, y.radius, z.radius);
+        Some(self.residual_of_parts(&x, &y, &z, second))
     }
 
+    // The affine extension of a constant level is the level, without a gradient.
     #[tactic(auto, unfolding(crate::specs::Residual::affine_residual))]
-    pub fn affine_residual(self, world: [Interval; 3]) -> Residual
-        ensures { result ≡ affine_residual self world }
+    pub fn affine_residual(&self, world: [Interval; 3]) -> Option<Interval>
+        ensures { result ≡ affine_residual self.now world }
     {
-        let levels = self.intervals;
-        let kind = levels.kind;
-        match kind {
-            LevelKind::Constant => self.expansion(world, self.interval_level, zeros()),
-            LevelKind::Linear => {
-                let level = levels.affine(centre(world));
-                self.expansion(world, level, levels.gradient())
-            }
-        }
+        let level = self.intervals.affine(centre(world));
+        self.expansion(world, level, self.intervals.gradient())
     }
 
     #[tactic(auto, unfolding(crate::specs::Residual::box_state))]
-    pub fn box_state(self, world: [Interval; 3]) -> State
-        ensures { result ≡ box_state self world }
+    pub fn box_state(&self, world: [Interval; 3]) -> State
+        ensures { result ≡ box_state self.now world }
     {
-        self.residual(world).state()
+        State::of(self.residual(world))
     }
 }

@@ -1,11 +1,9 @@
 // `turn`: sine and cosine of one turn coordinate, by a quarter number taken off and nine terms of each series.
 ghost use Rattle.std.specs.Prelude.{◌≡◌};
 ghost use Rattle.gyroid.specs.Turn.{reducible, beyond, symmetric, turned};
-ghost use Rattle.gyroid.specs.FunctionsInUse.{reduced, horner, sine_at, cosine_at, turn};
-ghost use Rattle.interval.specs.Interval.{product};
-ghost use Rattle.grade.specs.InUse.{sum};
+ghost use Rattle.gyroid.specs.FunctionsInUse.{reduced, horner, circle_at, turn};
 
-use crate::{Circle, Gyroid, Turn};
+use crate::{Circle, Gyroid};
 use interval::Interval;
 use interval::floor::{modulo_four, quarter_number};
 use interval::nearest::whole;
@@ -24,8 +22,8 @@ fn reducible(t: Interval) -> bool
 fn reduced(t: Interval, q: i64, two_pi: Interval) -> Interval
     ensures { result ≡ reduced t q two_pi }
 {
-    let quarters = Interval::point(whole(q)).mul(Interval::point(0.25));
-    t.sub(quarters).mul(two_pi)
+    let quarters = Interval::point(whole(q)) * Interval::point(0.25);
+    (t - quarters) * two_pi
 }
 
 fn beyond(u: Interval) -> bool
@@ -41,66 +39,66 @@ pub fn symmetric(x: f64) -> Interval
     Interval::new(-x, x)
 }
 
-#[tactic(auto, unfolding(crate::specs::Turn::turned))]
-fn turned(m: u64, sine: Interval, cosine: Interval) -> Turn
-    ensures { result ≡ turned m sine cosine }
+// Horner's rule over a series of nine terms.
+#[tactic(auto, unfolding(crate::specs::Turn::horner))]
+fn horner(coefficients: &[Interval; 9], x: Interval) -> Interval
+    ensures { result ≡ horner coefficients.now x 8 }
 {
-    match m {
-        0 => Turn::Found(sine, cosine),
-        1 => Turn::Found(cosine, sine.neg()),
-        2 => Turn::Found(sine.neg(), cosine.neg()),
-        _ => Turn::Found(cosine.neg(), sine),
+    let mut sum = coefficients[8];
+    // By index: over `iter().rev()` it was proved, but then no proof names the operations, and the kept wrong program is refused by no fact.
+    for i in 0..8 {
+        sum = sum * x + coefficients[7 - i];
+    }
+    sum
+}
+
+impl Circle {
+    // Turned by m quarters, where m is document 01's number "q mod 4": an enum of four would say the same numbers over again.
+    #[tactic(auto, unfolding(crate::specs::Turn::turned))]
+    fn turned(self, m: u64) -> Circle
+        ensures { result ≡ turned m self }
+    {
+        match m {
+            0 => self,
+            1 => Circle {
+                sine: self.cosine,
+                cosine: -self.sine,
+            },
+            2 => Circle {
+                sine: -self.sine,
+                cosine: -self.cosine,
+            },
+            _ => Circle {
+                sine: -self.cosine,
+                cosine: self.sine,
+            },
+        }
     }
 }
 
 impl Gyroid {
-    // Horner's rule in both series side by side, neither of which waits for the other, written out: so no coefficient is copied.
-    #[tactic(auto, unfolding(crate::specs::Turn::horner))]
-    fn series(self, x: Interval) -> Circle
-        ensures { result ≡ record { sine = horner self.sine x 8; cosine = horner self.cosine x 8 } }
+    #[tactic(auto, unfolding(crate::specs::Turn::circle_at, crate::specs::Turn::sine_at, crate::specs::Turn::cosine_at))]
+    fn circle(&self, u: Interval) -> Circle
+        ensures { result ≡ circle_at self.now u }
     {
-        let s = self.sine[8].mul(x).add(self.sine[7]);
-        let c = self.cosine[8].mul(x).add(self.cosine[7]);
-        let s = s.mul(x).add(self.sine[6]);
-        let c = c.mul(x).add(self.cosine[6]);
-        let s = s.mul(x).add(self.sine[5]);
-        let c = c.mul(x).add(self.cosine[5]);
-        let s = s.mul(x).add(self.sine[4]);
-        let c = c.mul(x).add(self.cosine[4]);
-        let s = s.mul(x).add(self.sine[3]);
-        let c = c.mul(x).add(self.cosine[3]);
-        let s = s.mul(x).add(self.sine[2]);
-        let c = c.mul(x).add(self.cosine[2]);
-        let s = s.mul(x).add(self.sine[1]);
-        let c = c.mul(x).add(self.cosine[1]);
-        let s = s.mul(x).add(self.sine[0]);
-        let c = c.mul(x).add(self.cosine[0]);
-        Circle { sine: s, cosine: c }
-    }
-
-    #[tactic(auto, unfolding(crate::specs::Turn::sine_at, crate::specs::Turn::cosine_at))]
-    fn circle(self, u: Interval) -> Circle
-        ensures { result ≡ record { sine = sine_at self u; cosine = cosine_at self u } }
-    {
-        let s = self.series(u.square());
+        let x = u.square();
         Circle {
-            sine: s.sine.mul(u).add(symmetric(self.tail_sine)),
-            cosine: s.cosine.add(symmetric(self.tail_cosine)),
+            sine: horner(&self.sine, x) * u + symmetric(self.tail_sine),
+            cosine: horner(&self.cosine, x) + symmetric(self.tail_cosine),
         }
     }
 
-    pub fn turn(self, t: Interval) -> Turn
-        ensures { result ≡ turn self t }
+    pub fn turn(&self, t: Interval) -> Option<Circle>
+        ensures { result ≡ turn self.now t }
     {
         if !reducible(t) {
-            return Turn::None;
+            return None;
         }
         let q = quarter_number(t.mid());
         let u = reduced(t, q, self.two_pi);
         if beyond(u) {
-            return Turn::None;
+            return None;
         }
-        let c = self.circle(u);
-        turned(modulo_four(q), c.sine, c.cosine)
+        Some(self.circle(u).turned(modulo_four(q)))
     }
 }

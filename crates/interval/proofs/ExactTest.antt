@@ -255,6 +255,10 @@ neg_alike nan = refl
 neg_alike (inf s) = refl
 neg_alike (fin s m e) = refl
 
+pub minus_is : (x y : Float) → sub binary64 x y ≡ add binary64 x (neg y)
+unfolding sub
+minus_is x y = refl
+
 pub difference_is : (x y : Float) → exact_difference x y ≡ exact_sum x (neg y)
 unfolding exact_difference exact_sum sub
 difference_is x y = λ i. finite x && neg_alike y i && (finite (sub binary64 x y) && equal_same (≈F_refl (value (sub binary64 x y))) turned i)

@@ -2,9 +2,8 @@
 use Rattle.std.proofs.Common.{◌≡◌, ℕ, zero, suc, ◌+◌, ◌*◌, ◌<◌, Bool, true, false, cond, T, sym, refl, ap, ◌∙◌, subst, zero-lt-suc, arith, ltb→lt, lt→ltb}
 use lib.Ieee.{Float, nan, inf, fin, neg, lt, le, of_bits, up, down}
 use lib.Ieee.Bits.{is_true}
-use Rattle.interval.specs.declared.Interval.{Interval}
 use Rattle.interval.specs.Step.{b64}
-use Rattle.interval.specs.Interval.{least, greatest, least4, greatest4, outward, around}
+use Rattle.interval.specs.Interval.{least, greatest, least4, greatest4}
 use Rattle.interval.proofs.SignTests.{largest, lowest}
 use Rattle.interval.proofs.StepCode.{yes}
 
@@ -87,9 +86,6 @@ pub four_below : (a b c d : Float) → T (lt (greatest4 a b c d) (b64 0)) → T 
 four_below a b c d h = least_below (least a b) (least c d) (least_below a b (greatest_below a b (greatest_below (greatest a b) (greatest c d) h)))
 
 -- ---- for the code of the least and the greatest of four
-pub around_is : (a b c d lo hi : Float) (r : Interval) → lo ≡ least4 a b c d → hi ≡ greatest4 a b c d → r ≡ outward lo hi → r ≡ around a b c d
-around_is a b c d lo hi r p q e = e ∙ ap (λ (v : Float). outward v hi) p ∙ ap (λ (v : Float). outward (least4 a b c d) v) q
-
 pub around_above : (a b c d lo hi : Float) → lo ≡ least4 a b c d → hi ≡ greatest4 a b c d → lt (b64 0) lo ≡ true → lt (b64 0) hi ≡ true
 around_above a b c d lo hi p q h = is_true (lt (b64 0) hi) (subst (λ (v : Float). T (lt (b64 0) v)) (sym q) (four_above a b c d (subst (λ (v : Float). T (lt (b64 0) v)) p (yes (lt (b64 0) lo) h))))
 

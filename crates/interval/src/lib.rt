@@ -14,12 +14,13 @@ pub mod sums; // whether a sum is exact, and its ends
 pub mod floor; // the floor, the quarter number and its remainder
 pub mod series; // the coefficients of sine and cosine, and their tails
 
-use outward::{around, larger, smaller};
-use sums::{exact_sum, unless_exact};
+use outward::{End, around, larger, smaller};
+use std::ops::{Add, Div, Mul, Neg, Sub};
+use sums::unless_exact;
 
 // Two doubles, low ≤ high. The type does not enforce the order: a caller's doubles are tested where they come in, and every operation keeps
 // it (proofs/Ordered.antt).
-#[derive(Clone, Copy)]
+#[derive(Clone, Copy, Debug, PartialEq)]
 pub struct Interval {
     pub lo: f64,
     pub hi: f64,
@@ -41,7 +42,7 @@ impl Interval {
     pub fn new(lo: f64, hi: f64) -> Interval
         ensures { result ≡ record { lo = lo; hi = hi } }
     {
-        Interval { lo: lo, hi: hi }
+        Interval { lo, hi }
     }
 
     pub fn point(x: f64) -> Interval
@@ -50,59 +51,14 @@ impl Interval {
         Interval { lo: x, hi: x }
     }
 
-    pub fn add(self, o: Interval) -> Interval
-        ensures { result ≡ sum Narrow self o }
-    {
-        let exact_low = exact_sum(self.lo, o.lo);
-        let exact_high = exact_sum(self.hi, o.hi);
-        unless_exact(self.lo + o.lo, exact_low, self.hi + o.hi, exact_high)
-    }
-
-    pub fn sub(self, o: Interval) -> Interval
-        ensures { result ≡ difference Narrow self o }
-    {
-        let exact_low = exact_sum(self.lo, -o.hi);
-        let exact_high = exact_sum(self.hi, -o.lo);
-        unless_exact(self.lo - o.hi, exact_low, self.hi - o.lo, exact_high)
-    }
-
-    pub fn mul(self, o: Interval) -> Interval
-        ensures { result ≡ product self o }
-    {
-        around(
-            self.lo * o.lo,
-            self.lo * o.hi,
-            self.hi * o.lo,
-            self.hi * o.hi,
-        )
-    }
-
-    pub fn div(self, o: Interval) -> Interval
-        ensures { result ≡ quotient self o }
-    {
-        around(
-            self.lo / o.lo,
-            self.lo / o.hi,
-            self.hi / o.lo,
-            self.hi / o.hi,
-        )
-    }
-
-    pub fn neg(self) -> Interval
-        ensures { result ≡ negation self }
-    {
-        Interval {
-            lo: -self.hi,
-            hi: -self.lo,
-        }
-    }
-
+    #[tactic(auto, unfolding(crate::specs::Interval::square))]
     pub fn square(self) -> Interval
         ensures { result ≡ square self }
     {
-        self.mul(self)
+        self * self
     }
 
+    #[tactic(auto, unfolding(crate::specs::Interval::mid))]
     pub fn mid(self) -> f64
         ensures { result ≡ mid self }
     {
@@ -110,12 +66,14 @@ impl Interval {
     }
 
     // The larger size of the two ends.
+    #[tactic(auto, unfolding(crate::specs::Interval::magnitude))]
     pub fn magnitude(self) -> f64
         ensures { result ≡ magnitude self }
     {
         larger(size(self.lo), size(self.hi))
     }
 
+    #[tactic(auto, unfolding(crate::specs::Interval::imin))]
     pub fn imin(self, o: Interval) -> Interval
         ensures { result ≡ imin self o }
     {
@@ -125,6 +83,7 @@ impl Interval {
         }
     }
 
+    #[tactic(auto, unfolding(crate::specs::Interval::imax))]
     pub fn imax(self, o: Interval) -> Interval
         ensures { result ≡ imax self o }
     {
@@ -135,6 +94,7 @@ impl Interval {
     }
 
     // Held to 0..1.
+    #[tactic(auto, unfolding(crate::specs::Interval::clamp01))]
     pub fn clamp01(self) -> Interval
         ensures { result ≡ clamp01 self }
     {
@@ -142,6 +102,77 @@ impl Interval {
     }
 }
 
+impl Add for Interval {
+    type Output = Interval;
+
+    ghost add_gives = { λ x y r. r ≡ sum Narrow x y };
+
+    #[tactic(auto, unfolding(crate::specs::Interval::sum))]
+    fn add(self, o: Interval) -> Interval {
+        unless_exact(End::sum(self.lo, o.lo), End::sum(self.hi, o.hi))
+    }
+}
+
+impl Sub for Interval {
+    type Output = Interval;
+
+    ghost sub_gives = { λ x y r. r ≡ difference Narrow x y };
+
+    #[tactic(auto, unfolding(crate::specs::Interval::difference))]
+    fn sub(self, o: Interval) -> Interval {
+        let low = End::difference(self.lo, o.hi);
+        let high = End::difference(self.hi, o.lo);
+        unless_exact(low, high)
+    }
+}
+
+impl Mul for Interval {
+    type Output = Interval;
+
+    ghost mul_gives = { λ x y r. r ≡ product x y };
+
+    #[tactic(auto, unfolding(crate::specs::Interval::product))]
+    fn mul(self, o: Interval) -> Interval {
+        around(
+            self.lo * o.lo,
+            self.lo * o.hi,
+            self.hi * o.lo,
+            self.hi * o.hi,
+        )
+    }
+}
+
+impl Div for Interval {
+    type Output = Interval;
+
+    ghost div_gives = { λ x y r. r ≡ quotient x y };
+
+    #[tactic(auto, unfolding(crate::specs::Interval::quotient))]
+    fn div(self, o: Interval) -> Interval {
+        around(
+            self.lo / o.lo,
+            self.lo / o.hi,
+            self.hi / o.lo,
+            self.hi / o.hi,
+        )
+    }
+}
+
+impl Neg for Interval {
+    type Output = Interval;
+
+    ghost neg_gives = { λ x r. r ≡ negation x };
+
+    #[tactic(auto, unfolding(crate::specs::Interval::negation))]
+    fn neg(self) -> Interval {
+        Interval {
+            lo: -self.hi,
+            hi: -self.lo,
+        }
+    }
+}
+
+// `f64::abs` takes the sign off a zero as well, which the definition leaves on.
 fn size(x: f64) -> f64
     ensures { result ≡ abs x }
 {

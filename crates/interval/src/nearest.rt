@@ -3,9 +3,10 @@ ghost use Rattle.std.specs.Prelude.{◌≡◌, ◌^◌, ◌<◌, ◌≤◌, unsi
 ghost use Rattle.interval.specs.Nearest.{nearest, from_rational};
 
 use crate::Interval;
-use crate::sums::singly;
+use crate::outward::apart;
 
 // No caller misses the bounds: every fraction of a description within document 01's limits has parts below 2^53.
+#[tactic(auto, using(crate::proofs::NearestCode::quotient_is))]
 pub fn nearest(num: i64, den: u64) -> f64
     requires { (unsigned_abs num ≤ 2 ^ 53) × (0 < den) × (den ≤ 2 ^ 53) }
     ensures { result ≡ nearest num den }
@@ -14,6 +15,7 @@ pub fn nearest(num: i64, den: u64) -> f64
 }
 
 // The nearest double of a whole number.
+#[tactic(auto, using(crate::proofs::NearestCode::whole_is))]
 pub fn whole(z: i64) -> f64
     ensures { result ≡ nearest z 1 }
 {
@@ -22,11 +24,12 @@ pub fn whole(z: i64) -> f64
 
 impl Interval {
     // The nearest double, stepped both ways, also where it is the fraction itself.
+    #[tactic(auto, unfolding(crate::specs::Nearest::from_rational))]
     pub fn from_rational(num: i64, den: u64) -> Interval
         requires { (unsigned_abs num ≤ 2 ^ 53) × (0 < den) × (den ≤ 2 ^ 53) }
         ensures { result ≡ from_rational num den }
     {
         let x = nearest(num, den);
-        singly(x, false, x, false)
+        apart(x, x)
     }
 }

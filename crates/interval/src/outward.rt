@@ -1,13 +1,33 @@
 // The ends of a product or a quotient, stepped outward. Where a few tests tell the ends' signs, both steps are one sum on the bit patterns:
-// the walk spends most of its time here.
-ghost use Rattle.std.specs.Prelude.{◌≡◌, true, false, if◌then◌else◌};
+// the walk spends most of its time here. An exact end's pattern is put back by adding or taking `exact` itself, which needs no branch.
+ghost use Rattle.std.specs.Prelude.{◌≡◌, true, false};
 ghost use Rattle.std.specs.Float.Ieee as Ieee;
 ghost use Rattle.interval.specs.Step.{b64};
 ghost use Rattle.interval.specs.Interval.{least, greatest, least4, greatest4, outward, Narrow, stepped, around};
 
 use crate::Interval;
-use crate::step::{MAX, next_down, next_up};
+use crate::step::{next_down, next_up};
 
+// An end as it was rounded, and whether it stays as it is.
+#[derive(Clone, Copy, Debug, PartialEq)]
+pub struct End {
+    pub value: f64,
+    pub exact: bool,
+}
+
+impl End {
+    // The end of a product or a quotient: stepped always.
+    pub fn inexact(value: f64) -> End
+        ensures { result ≡ record { value = value; exact = false } }
+    {
+        End {
+            value,
+            exact: false,
+        }
+    }
+}
+
+// The lesser and the greater of two, of two zeros the first: `f64::min` and `f64::max` may answer either zero, and pass over a NaN.
 pub fn smaller(a: f64, b: f64) -> f64
     ensures { result ≡ least a b }
 {
@@ -20,36 +40,25 @@ pub fn larger(a: f64, b: f64) -> f64
     if a < b { b } else { a }
 }
 
-// By how much the pattern of an end moves: not at all where the end is exact.
-fn moves(exact: bool) -> u64
-    ensures { result ≡ (if exact then 0 else 1) }
-{
-    if exact { 0 } else { 1 }
-}
-
 // Both ends above zero, the high one finite; an exact end stays.
-pub fn above(low: f64, exact_low: bool, high: f64, exact_high: bool) -> Interval
-    requires { (Ieee.lt (b64 0) low ≡ true) × (Ieee.lt (b64 0) high ≡ true) × (Ieee.le high (b64 0x7fef_ffff_ffff_ffff) ≡ true) }
-    ensures { result ≡ stepped Narrow low exact_low high exact_high }
+pub fn above(low: End, high: End) -> Interval
+    requires { (Ieee.lt (b64 0) low.value ≡ true) × (Ieee.lt (b64 0) high.value ≡ true) × (Ieee.le high.value (b64 0x7fef_ffff_ffff_ffff) ≡ true) }
+    ensures { result ≡ stepped Narrow low.value low.exact high.value high.exact }
 {
-    let down = moves(exact_low);
-    let up = moves(exact_high);
     Interval {
-        lo: f64::from_bits(f64::to_bits(low) - down),
-        hi: f64::from_bits(f64::to_bits(high) + up),
+        lo: f64::from_bits(low.value.to_bits() - 1 + u64::from(low.exact)),
+        hi: f64::from_bits(high.value.to_bits() + 1 - u64::from(high.exact)),
     }
 }
 
 // Both ends below zero, the low one finite; an exact end stays.
-pub fn below(low: f64, exact_low: bool, high: f64, exact_high: bool) -> Interval
-    requires { (Ieee.lt low (b64 0) ≡ true) × (Ieee.lt high (b64 0) ≡ true) × (Ieee.le (b64 0xffef_ffff_ffff_ffff) low ≡ true) }
-    ensures { result ≡ stepped Narrow low exact_low high exact_high }
+pub fn below(low: End, high: End) -> Interval
+    requires { (Ieee.lt low.value (b64 0) ≡ true) × (Ieee.lt high.value (b64 0) ≡ true) × (Ieee.le (b64 0xffef_ffff_ffff_ffff) low.value ≡ true) }
+    ensures { result ≡ stepped Narrow low.value low.exact high.value high.exact }
 {
-    let down = moves(exact_low);
-    let up = moves(exact_high);
     Interval {
-        lo: f64::from_bits(f64::to_bits(low) + down),
-        hi: f64::from_bits(f64::to_bits(high) - up),
+        lo: f64::from_bits(low.value.to_bits() + 1 - u64::from(low.exact)),
+        hi: f64::from_bits(high.value.to_bits() - 1 + u64::from(high.exact)),
     }
 }
 
@@ -59,13 +68,13 @@ fn across(low: f64, high: f64) -> Interval
     ensures { result ≡ outward low high }
 {
     Interval {
-        lo: f64::from_bits(f64::to_bits(low) % 0x8000_0000_0000_0000 + 0x8000_0000_0000_0001),
-        hi: f64::from_bits(f64::to_bits(high) % 0x8000_0000_0000_0000 + 1),
+        lo: f64::from_bits(low.to_bits() % 0x8000_0000_0000_0000 + 0x8000_0000_0000_0001),
+        hi: f64::from_bits(high.to_bits() % 0x8000_0000_0000_0000 + 1),
     }
 }
 
 // Each end by itself.
-fn apart(low: f64, high: f64) -> Interval
+pub fn apart(low: f64, high: f64) -> Interval
     ensures { result ≡ outward low high }
 {
     Interval {
@@ -88,25 +97,26 @@ fn greatest_of(a: f64, b: f64, c: f64, d: f64) -> f64
 
 // The least and the greatest of four, stepped outward. The low end is tested before the high end is formed, which lets the compiler
 // keep the two apart.
+#[tactic(auto, using(crate::proofs::FourCode::from_lowest))]
 pub fn around(a: f64, b: f64, c: f64, d: f64) -> Interval
     ensures { result ≡ around a b c d }
 {
-    let low = least_of(a, b, c, d);
-    if 0.0 < low {
-        let high = greatest_of(a, b, c, d);
-        if high <= MAX {
-            return above(low, false, high, false);
+    let low = End::inexact(least_of(a, b, c, d));
+    if 0.0 < low.value {
+        let high = End::inexact(greatest_of(a, b, c, d));
+        if high.value <= f64::MAX {
+            return above(low, high);
         }
-        return apart(low, high);
+        return apart(low.value, high.value);
     }
-    let high = greatest_of(a, b, c, d);
-    if -MAX <= low {
-        if high < 0.0 {
-            return below(low, false, high, false);
+    let high = End::inexact(greatest_of(a, b, c, d));
+    if -f64::MAX <= low.value {
+        if high.value < 0.0 {
+            return below(low, high);
         }
-        if high <= MAX {
-            return across(low, high);
+        if high.value <= f64::MAX {
+            return across(low.value, high.value);
         }
     }
-    apart(low, high)
+    apart(low.value, high.value)
 }

@@ -82,14 +82,14 @@ tests false true v = refl
 tests false false v = refl
 
 pub one_cell : (low n : ℕ) (m : Record) (b : ShiftedBox) → IsSoundCell m → box_of b ≡ m.box → (k s : ℕ) → k < n
-    → part (layers_below b.hz low n - layers_below b.lz low n) (layers_below b.lz low n) (m.state - 1) (area m.box) k s
+    → part (layers_below b.z.high low n - layers_below b.z.low low n) (layers_below b.z.low low n) (m.state - 1) (area m.box) k s
     ≡ cond (eqb s m.state) (area_at (unshifted (low + k)) m.box) 0
 one_cell low n m b sound is k s h =
     let z : ℤ = unshifted (low + k) in
     let up = (good_shifted b (subst⁻¹ Good is sound.good)).below_z in
     let there = sym (coordinates b) ∙ is in
     let column : suc (m.state - 1) ≡ m.state = omega (arith, sound.least) in
-    (λ t. cond (crossed low n k b.lz b.hz h up t && eqb s (column t)) (area m.box) 0)
+    (λ t. cond (crossed low n k b.z.low b.z.high h up t && eqb s (column t)) (area m.box) 0)
     ∙ ap (λ (c : Box). cond (lies_between z c.lz c.hz && eqb s m.state) (area m.box) 0) there
     ∙ tests (lies_between z m.box.lz m.box.hz) (eqb s m.state) (area m.box)
     ∙ ap (λ (a : ℕ). cond (eqb s m.state) a 0) (sym (area_at_is z m.box))

@@ -23,7 +23,7 @@ use Rattle.layers.proofs.ThreesLaws.{threes, threes_same, threes_none, areas_are
 use Rattle.layers.proofs.ColumnLaws.{length_added}
 use Rattle.layers.proofs.AddedLaws.{part, Sums, column}
 use Rattle.layers.proofs.SumLaws.{area_none, area_more, area_le, crossing_le}
-use Rattle.layers.proofs.CellLaws.{below_most, reach, one_cell}
+use Rattle.layers.proofs.CellLaws.{reach, one_cell}
 
 -- of n layers from low on, the areas of some cells
 abbrev areas_of : ℕ → List Record → (ℕ → ℕ → ℕ)
@@ -39,10 +39,10 @@ record SoFar (n : ℕ) (old r : List ℕ) (rest all : ℕ → ℕ → ℕ) : Typ
 module _ (n low : ℕ) (old : List ℕ) (m : Record) (ms : List Record) (b : ShiftedBox) (sound : IsSoundCell m) (is : box_of b ≡ m.box)
     (all : ℕ → ℕ → ℕ) (small : (k s : ℕ) → k < n → all k s ≤ 9223372036854775808) (r : List ℕ) (sofar : SoFar n old r (areas_of low (m ∷ ms)) all) where
   abbrev first : ℕ
-  first = layers_below b.lz low n
+  first = layers_below b.z.low low n
 
   abbrev many : ℕ
-  many = layers_below b.hz low n - first
+  many = layers_below b.z.high low n - first
 
   abbrev sum : ℕ → ℕ → ℕ
   sum k s = sofar.words k s + part many first (m.state - 1) (area m.box) k s
@@ -51,7 +51,7 @@ module _ (n low : ℕ) (old : List ℕ) (m : Record) (ms : List Record) (b : Shi
   sum_is k s h = omega (arith, one_cell low n m b sound is k s h, area_more s (unshifted (low + k)) m ms, sofar.adds k s h)
 
   sums : Sums n (drop (24 * n) old) many first (m.state - 1) (area m.box) sofar.words
-  sums = column n (drop (24 * n) old) many first (m.state - 1) (area m.box) sofar.words (reach b.lz b.hz low n)
+  sums = column n (drop (24 * n) old) many first (m.state - 1) (area m.box) sofar.words (reach b.z.low b.z.high low n)
       (omega (arith, sound.least, sound.most)) (λ k s h. omega (arith, sum_is k s h, small k s h))
 
   one_fits : Fitting many first (m.state - 1) (area m.box) r
@@ -65,11 +65,11 @@ pub record Got (t : List ℕ) (low n slot : ℕ) (b : ShiftedBox) (state v first
   pub box_is : box_of b ≡ (record_in t slot).box
   pub state_is : state ≡ (record_in t slot).state
   pub area_is : v ≡ area (box_of b)
-  pub first_is : first ≡ layers_below b.lz low n
-  pub end_is : end ≡ layers_below b.hz low n
+  pub first_is : first ≡ layers_below b.z.low low n
+  pub end_is : end ≡ layers_below b.z.high low n
 
 pub got : (t : List ℕ) (low n slot : ℕ) (b : ShiftedBox) {state v first end : ℕ} → box_of b ≡ (record_in t slot).box → state ≡ (record_in t slot).state
-    → v ≡ area (box_of b) → first ≡ layers_below b.lz low n → end ≡ layers_below b.hz low n → Got t low n slot b state v first end
+    → v ≡ area (box_of b) → first ≡ layers_below b.z.low low n → end ≡ layers_below b.z.high low n → Got t low n slot b state v first end
 got t low n slot b e f g h k = record { box_is = e; state_is = f; area_is = g; first_is = h; end_is = k }
 
 -- ---- a turn of the loop; `old` is the report where the loop begins
@@ -112,24 +112,15 @@ module _ {t : List ℕ} {low n : ℕ} {old r : List ℕ} {slot left : ℕ} (some
     pub column_below : state - 1 < 3
     column_below = omega (arith, cell.least, cell.most, got.state_is)
 
-    end_most : end ≤ n
-    end_most = omega (arith, below_most b.hz low n, got.end_is)
-
-    pub layers_few : end ≤ 2097152
-    layers_few = omega (arith, end_most, turn.layers)
-
-    pub layers_fit : 24 * end ≤ length r
-    layers_fit = omega (arith, end_most, turn.enough, turn.long)
-
     pub fitting : Fitting (end - first) first (state - 1) v r
     fitting =
         transport (λ i. Fitting (sym got.end_is i - sym got.first_is i) (sym got.first_is i) (sym column_is i) (sym v_is i) r)
         (one_fits n low old (record_in t slot) (chain (left - 1) t (next_in t slot)) b cell got.box_is (areas_of low (records_in t)) small r rest)
 
-    pub next_turn : {u : List ℕ} {next : ℕ} → u ≡ added_to (end - first) first (state - 1) v r → next ≡ next_in t slot → Turn t low n old u next (left - 1)
-    next_turn {u} {next} added named =
-        let low-z : ℕ = layers_below b.lz low n in
-        let is : u ≡ added_to (layers_below b.hz low n - low-z) low-z ((record_in t slot).state - 1) (area (record_in t slot).box) r =
+    after_one : {u : List ℕ} {next : ℕ} → u ≡ added_to (end - first) first (state - 1) v r → next ≡ next_in t slot → Turn t low n old u next (left - 1)
+    after_one {u} {next} added named =
+        let low-z : ℕ = layers_below b.z.low low n in
+        let is : u ≡ added_to (layers_below b.z.high low n - low-z) low-z ((record_in t slot).state - 1) (area (record_in t slot).box) r =
         added ∙ (λ i. added_to (got.end_is i - got.first_is i) (got.first_is i) (column_is i) (v_is i) r) in
         record {
           sound = turn.sound;
@@ -140,6 +131,11 @@ module _ {t : List ℕ} {low n : ℕ} {old r : List ℕ} {slot left : ℕ} (some
           sofar = transport (λ i. SoFar n old (sym is i) (areas_of low (chain (left - 1) t (sym named i))) (areas_of low (records_in t)))
               (one_more n low old (record_in t slot) (chain (left - 1) t (next_in t slot)) b cell got.box_is (areas_of low (records_in t)) small r rest);
         }
+
+    pub next_turn : {u : List ℕ} {next fewer : ℕ} → u ≡ added_to (end - first) first (state - 1) v r → next ≡ next_in t slot → left - 1 ≡ fewer
+        → Turn t low n old u next fewer
+    next_turn {u} {next} added named less =
+        subst (Turn t low n old u next) less (after_one added named)
 
 -- ---- before the first turn the layers are clear, and the later bytes are as they were
 kept : (n : ℕ) (entry : List ℕ) {r : List ℕ} → r ≡ replicate (24 * n) 0 ++ drop (24 * n) entry → drop (24 * n) r ≡ drop (24 * n) entry

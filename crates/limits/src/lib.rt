@@ -1,5 +1,5 @@
-// What all layers share of the documents' refusals: how numbers combine, and the limits of coordinates.
+// What all layers share of the documents' refusals: their numbers, how one test refuses, and the limits of coordinates.
 #![tactic(auto)]
 
-pub mod refusals; // one number of several
+pub mod refusals; // the documents' numbers, and a test that refuses
 pub mod ticks; // which coordinates are admitted

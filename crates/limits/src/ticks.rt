@@ -2,13 +2,10 @@
 ghost use Rattle.std.specs.Prelude.{◌≡◌};
 ghost use Rattle.limits.specs.Ticks.{tick, side, ticks, above};
 
-// The least and the greatest.
-const TICKS: [i64; 2] = [-1048576, 1048576];
-
 pub fn tick(x: i64) -> bool
     ensures { result ≡ tick x }
 {
-    (TICKS[0] <= x) & (x <= TICKS[1])
+    (-1048576..=1048576).contains(&x)
 }
 
 pub fn side(low: i64, high: i64) -> bool
@@ -20,10 +17,10 @@ pub fn side(low: i64, high: i64) -> bool
 pub fn ticks(v: [i64; 3]) -> bool
     ensures { result ≡ ticks v }
 {
-    tick(v[0]) & tick(v[1]) & tick(v[2])
+    v.into_iter().all(tick)
 }
 
-// Whether a low is above its high.
+// Whether a low is above its high. The three axes are written out: as `any` over the axes the equation with `above` was not found.
 pub fn above(lo: [i64; 3], hi: [i64; 3]) -> bool
     ensures { result ≡ above lo hi }
 {

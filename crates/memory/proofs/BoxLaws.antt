@@ -1,82 +1,64 @@
 -- THE SIDES OF A BOX THAT STAND IN THEIR SLOTS give it its state. Assumes nothing.
-use mathlib.Core.Path.{◌≡◌, refl, sym, ap, ◌∙◌, subst}
-use mathlib.Core.Bool.{Bool, true, false, ◌&&◌}
-use mathlib.Core.Logic.{inl}
-use mathlib.Core.List.{List}
-use Prim.Native.Nat.{ℕ, ◌*◌, ◌/◌, ◌<◌}
-use native.Mathlib.Omega.{arith}
-use lib.Dec.{T, eqb}
-use lib.Ieee.{Float}
+use Rattle.std.proofs.Common.{◌≡◌, refl, sym, ap, ◌∙◌, ℕ, ◌/◌, ◌<◌, List, Option, Some, None, arith}
 use Rattle.grade.specs.InUse.{in_use}
-use Rattle.gyroid.specs.declared.Gyroid.{Gyroid}
 use Rattle.interval.specs.declared.Interval.{Interval}
+use Rattle.gyroid.specs.declared.Gyroid.{Gyroid}
 use Rattle.gyroid.specs.declared.Part.{Part}
-use Rattle.gyroid.specs.declared.State.{State}
-use Rattle.gyroid.specs.FunctionsInUse.{part, joined, radius}
+use Rattle.gyroid.specs.declared.State.TheVariants.{Unsettled}
+use Rattle.gyroid.specs.FunctionsInUse.{part, joined, radius, second_of}
 use Rattle.gyroid.specs.Residual.{state_of}
 use Rattle.gyroid.specs.InUse.{box_state}
 use Rattle.gyroid.specs.Admitted.{tick_box}
 use Rattle.gyroid.proofs.PartLaws.{radius_found, joined_state}
+use Rattle.tree.specs.declared.Side.{Side}
 use Rattle.tree.specs.declared.ShiftedBox.{ShiftedBox}
-use Rattle.tree.specs.Box.{Box, Good, lows, highs, box_of}
+use Rattle.tree.specs.Box.{Box, lows, highs, box_of}
 use Rattle.tree.proofs.Coordinates.{coordinates}
-use Rattle.tree.proofs.ShiftedLaws.{good_shifted}
 use Rattle.memory.specs.declared.Places.{Places}
-use Rattle.gyroid.specs.Numbers.{part_at, Found}
-use Rattle.memory.specs.Memory.{side, low_in, high_in, Remembers, Holds, Others, Slots, Ready, Radii}
-use Rattle.memory.proofs.SlotLaws.{false_true, kept, tested}
+use Rattle.memory.specs.declared.Slot.{Slot}
+use Rattle.memory.specs.declared.Term.{Term}
+use Rattle.memory.specs.Memory.{side, slot_at, part_in, Remembers, Holds, Slots, Ready}
+use Rattle.memory.proofs.SlotLaws.{kept, none_some}
 
--- three tests
-pub all : (x y z : Bool) → (x && y && z) ≡ true → (x ≡ true) × (y ≡ true) × (z ≡ true)
-all true true true e = (refl, refl, refl)
-all true true false e = false_true e
-all true false z e = false_true e
-all false y z e = false_true e
+-- three parts have a second-order term, so that where there is none, a part is missing
+pub none_joined : (g h : Gyroid) (x y z : Option Part) {q : Option Interval} → q ≡ None
+    → ((a b c : Part) → x ≡ Some a → y ≡ Some b → z ≡ Some c → q ≡ Some (second_of h a.radius b.radius c.radius)) → Unsettled ≡ state_of (joined g x y z)
+none_joined g h (Some a) (Some b) (Some c) e f = none_some (sym e ∙ f a b c refl refl refl)
+none_joined g h (Some a) (Some b) None e f = refl
+none_joined g h (Some a) None z e f = refl
+none_joined g h None y z e f = refl
 
--- one slot was made sure after another
-pub ready_three : (k l m : List ℕ) (b : ShiftedBox) (p : Places) → Slots p → Holds k p.x b.lx b.hx
-    → Others p.y k l → Holds l p.y b.ly b.hy → Others p.z l m → Holds m p.z b.lz b.hz → Ready m b p
-ready_three k l m b p s on_x other-y on_y other-z on_z = record {
-  on_x = other-z p.x _ _ (inl (omega (arith, s.of_x, s.from_z))) (other-y p.x _ _ (inl (omega (arith, s.of_x, s.from_y))) on_x);
-  on_y = other-z p.y _ _ (inl (omega (arith, s.of_y, s.from_z))) on_y;
-  on_z = on_z;
-}
+module _ (g : Gyroid) (slots : List (Option Slot)) (terms : List (Option Term)) (b : ShiftedBox) (p : Places) (remembers : Remembers g slots terms)
+    (at : Slots p) (ready : Ready slots b p) where
+  -- the part in each slot
+  part_is : (a s : ℕ) (c : Side) → s < 192 → s / 64 ≡ a → Holds slots s c → part_in (slot_at slots s) ≡ part g a (side c)
+  part_is a s c inside own holds = kept g slots terms s c inside remembers holds ∙ ap (λ (n : ℕ). part g n (side c)) own
 
-pub ready_tested : (k : List ℕ) (b : ShiftedBox) (p : Places) {x y z : Bool} → x ≡ (eqb (low_in k p.x) b.lx && eqb (high_in k p.x) b.hx)
-    → y ≡ (eqb (low_in k p.y) b.ly && eqb (high_in k p.y) b.hy) → z ≡ (eqb (low_in k p.z) b.lz && eqb (high_in k p.z) b.hz)
-    → (x && y && z) ≡ true → Ready k b p
-ready_tested k b p {x} {y} {z} ex ey ez e =
-    let (on_x, on_y, on_z) = all x y z e in
-    record { on_x = tested k p.x _ _ ex on_x; on_y = tested k p.y _ _ ey on_y; on_z = tested k p.z _ _ ez on_z }
+  pub part_x : part_in (slot_at slots p.x) ≡ part g 0 (side b.x)
+  part_x = part_is 0 p.x b.x (omega (arith, at.of_x)) (omega (arith, at.of_x)) ready.on_x
 
-module _ (g : Gyroid) (k : List ℕ) (v : List Float) (b : ShiftedBox) (p : Places) (good : Good (box_of b)) (remembers : Remembers g k v)
-    (slots : Slots p) (ready : Ready k b p) where
-  part_is : (a s low high : ℕ) → s < 192 → s / 64 ≡ a → low < high → Holds k s low high → part_at v (10 * s) ≡ part g a (side low high)
-  part_is a s low high S e h on = kept g k v s low high S remembers (omega arith) on ∙ ap (λ (n : ℕ). part g n (side low high)) e
+  pub part_y : part_in (slot_at slots p.y) ≡ part g 1 (side b.y)
+  part_y = part_is 1 p.y b.y (omega (arith, at.of_y)) (omega (arith, at.from_y, at.of_y)) ready.on_y
 
-  part_x : part_at v (10 * p.x) ≡ part g 0 (side b.lx b.hx)
-  part_x = part_is 0 p.x _ _ (omega (arith, slots.of_x)) (omega (arith, slots.of_x)) (good_shifted b good).below_x ready.on_x
+  pub part_z : part_in (slot_at slots p.z) ≡ part g 2 (side b.z)
+  part_z = part_is 2 p.z b.z at.of_z (omega (arith, at.from_z, at.of_z)) ready.on_z
 
-  part_y : part_at v (10 * p.y) ≡ part g 1 (side b.ly b.hy)
-  part_y = part_is 1 p.y _ _ (omega (arith, slots.of_y)) (omega (arith, slots.from_y, slots.of_y)) (good_shifted b good).below_y ready.on_y
+  -- its radius, where there is one, is that of the side
+  radius_is : {o : Option Part} (a : ℕ) (c : Interval) (x : Part) → o ≡ part g a c → o ≡ Some x → x.radius ≡ radius c
+  radius_is a c x e h = radius_found in_use g a c (sym e ∙ h)
 
-  part_z : part_at v (10 * p.z) ≡ part g 2 (side b.lz b.hz)
-  part_z = part_is 2 p.z _ _ slots.of_z (omega (arith, slots.from_z, slots.of_z)) (good_shifted b good).below_z ready.on_z
+  pub radius_x : (x : Part) → part_in (slot_at slots p.x) ≡ Some x → x.radius ≡ radius (side b.x)
+  radius_x x h = radius_is 0 (side b.x) x part_x h
 
-  -- where they are found, their radii are those of the sides
-  pub radii_are : Found v (10 * p.x) (10 * p.y) (10 * p.z) → Radii v b (10 * p.x) (10 * p.y) (10 * p.z)
-  radii_are e =
-      let (x, y, z) = all (part_at v (10 * p.x)).found (part_at v (10 * p.y)).found (part_at v (10 * p.z)).found e in
-      record { on_x = own 0 _ part_x x; on_y = own 1 _ part_y y; on_z = own 2 _ part_z z }
-    where
-      own : {q : Part} (a : ℕ) (c : Interval) → q ≡ part g a c → q.found ≡ true → q.radius ≡ radius c
-      own a c h f =
-          ap (λ (r : Part). r.radius) h ∙ radius_found in_use g a c (subst T (sym (sym (ap (λ (r : Part). r.found) h) ∙ f)) tt)
+  pub radius_y : (y : Part) → part_in (slot_at slots p.y) ≡ Some y → y.radius ≡ radius (side b.y)
+  radius_y y h = radius_is 1 (side b.y) y part_y h
 
-  own : state_of (joined g (part g 0 (side b.lx b.hx)) (part g 1 (side b.ly b.hy)) (part g 2 (side b.lz b.hz)))
-      ≡ box_state g (tick_box (lows (box_of b)) (highs (box_of b)))
-  own = joined_state in_use g _ ∙ ap (λ (c : Box). box_state g (tick_box (lows c) (highs c))) (sym (coordinates b))
+  pub radius_z : (z : Part) → part_in (slot_at slots p.z) ≡ Some z → z.radius ≡ radius (side b.z)
+  radius_z z h = radius_is 2 (side b.z) z part_z h
 
-  pub state_is : {s : State} → s ≡ state_of (joined g (part_at v (10 * p.x)) (part_at v (10 * p.y)) (part_at v (10 * p.z)))
-      → s ≡ box_state g (tick_box (lows (box_of b)) (highs (box_of b)))
-  state_is e = e ∙ (λ i. state_of (joined g (part_x i) (part_y i) (part_z i))) ∙ own
+  -- the state, by what was read in the slots
+  pub state_is : {x y z : Option Part} → x ≡ part_in (slot_at slots p.x) → y ≡ part_in (slot_at slots p.y) → z ≡ part_in (slot_at slots p.z)
+      → state_of (joined g x y z) ≡ box_state g (tick_box (lows (box_of b)) (highs (box_of b)))
+  state_is ex ey ez =
+      (λ i. state_of (joined g ((ex ∙ part_x) i) ((ey ∙ part_y) i) ((ez ∙ part_z) i)))
+      ∙ joined_state in_use g _ ∙ ap (λ (c : Box). box_state g (tick_box (lows c) (highs c))) (sym (coordinates b))

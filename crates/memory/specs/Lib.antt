@@ -1,1 +1,3 @@
 pub mod Memory
+-- where the sides are looked up
+pub mod Places

@@ -1,58 +1,59 @@
--- WHAT A MEMORY OF PARTS HOLDS: 64 slots an axis, those of x first, and 32 second-order terms. Slot s has the ends of a side, in shifted ticks, in the
--- keys 2s and 2s + 1, and its part in the numbers from 10s on; a high end of zero is no key. Term d has three spans in the keys from 384 + 3d on, and
--- its ends in the numbers 1920 + 2d and 1921 + 2d; a first span of zero is no key. Definitions only; assumes nothing.
-use Rattle.std.specs.Prelude.{◌≡◌, List, ◌⊎◌, ℕ, ◌+◌, ◌*◌, ◌/◌, ◌≤◌, ◌<◌, length, get_or, Float}
+-- WHAT A MEMORY OF PARTS HOLDS: 64 slots an axis, those of x first, and 32 second-order terms. A slot may hold a side, in shifted ticks, and with it
+-- its part; a term stands with the three spans of the boxes that it is of. Definitions only; assumes nothing.
+use Rattle.std.specs.Prelude.{◌≡◌, List, ◌⊎◌, ℕ, ◌/◌, ◌≤◌, ◌<◌, get_or, Float, Option, Some, None}
 use Rattle.interval.specs.declared.Interval.{Interval}
 use Rattle.interval.specs.Nearest.{nearest}
 use Rattle.gyroid.specs.declared.Gyroid.{Gyroid}
-use Rattle.gyroid.specs.FunctionsInUse.{part, radius}
-use Rattle.gyroid.specs.Numbers.{interval_at, part_at, second_of}
+use Rattle.gyroid.specs.declared.Part.{Part}
+use Rattle.gyroid.specs.FunctionsInUse.{part, radius, second_of}
+use Rattle.tree.specs.declared.Side.{Side}
 use Rattle.tree.specs.declared.ShiftedBox.{ShiftedBox}
 use Rattle.tree.specs.Box.{unshifted}
 use Rattle.memory.specs.declared.Places.{Places}
+use Rattle.memory.specs.declared.Slot.{Slot}
+use Rattle.memory.specs.declared.Term.{Term}
 
 -- the side of a box along one axis, "its ends n/1024 exactly"
-abbrev pub side : ℕ → ℕ → Interval
-side low high = record { lo = nearest (unshifted low) 1024; hi = nearest (unshifted high) 1024 }
+abbrev pub side : Side → Interval
+side s = record { lo = nearest (unshifted s.low) 1024; hi = nearest (unshifted s.high) 1024 }
 
 -- the radius of a side that is n ticks long: wherever it lies
 abbrev pub radius_of : ℕ → Float
-radius_of n = radius (side 0 n)
+radius_of n = radius (side (record { low = 0; high = n }))
 
--- a slot's key
-abbrev pub low_in : List ℕ → ℕ → ℕ
-low_in k s = get_or k (2 * s) 0
+-- the second-order term of the boxes with three spans
+abbrev pub term_of : Gyroid → List ℕ → Interval
+term_of g spans = second_of g (radius_of (get_or spans 0 0)) (radius_of (get_or spans 1 0)) (radius_of (get_or spans 2 0))
 
-abbrev pub high_in : List ℕ → ℕ → ℕ
-high_in k s = get_or k (2 * s + 1) 0
+-- what stands in slot s, and which term d
+abbrev pub slot_at : List (Option Slot) → ℕ → Option Slot
+slot_at slots s = get_or slots s None
 
--- the spans of a term's key
-abbrev pub span_x : List ℕ → ℕ → ℕ
-span_x k d = get_or k (384 + 3 * d) 0
+abbrev pub term_at : List (Option Term) → ℕ → Option Term
+term_at kept d = get_or kept d None
 
-abbrev pub span_y : List ℕ → ℕ → ℕ
-span_y k d = get_or k (384 + 3 * d + 1) 0
+-- THE INVARIANT: every slot that holds a side holds what its axis, s div 64, gives over that side, and every term that has spans is that of a box
+-- with these spans
+pub record Remembers (g : Gyroid) (slots : List (Option Slot)) (kept : List (Option Term)) : Type 0 where
+  pub parts : (s : ℕ) → s < 192 → (x : Slot) → slot_at slots s ≡ Some x → x.part ≡ part g (s / 64) (side x.side)
+  pub terms : (d : ℕ) → d < 32 → (q : Term) → term_at kept d ≡ Some q → q.value ≡ term_of g q.spans
 
-abbrev pub span_z : List ℕ → ℕ → ℕ
-span_z k d = get_or k (384 + 3 * d + 2) 0
+-- the side in a slot, and the part
+abbrev pub side_in : Option Slot → Option Side
+side_in None = None
+side_in (Some x) = Some x.side
 
--- THE INVARIANT: every slot that has a key holds what its axis, s div 64, gives over the key's side, and every term that has a key is that of a box
--- with the key's spans
-pub record Remembers (g : Gyroid) (k : List ℕ) (v : List Float) : Type 0 where
-  pub keys : length k ≡ 480
-  pub numbers : length v ≡ 1984
-  pub parts : (s : ℕ) → s < 192 → 0 < high_in k s → part_at v (10 * s) ≡ part g (s / 64) (side (low_in k s) (high_in k s))
-  pub terms : (d : ℕ) → d < 32 → 0 < span_x k d
-      → interval_at v (1920 + 2 * d) ≡ second_of g (radius_of (span_x k d)) (radius_of (span_y k d)) (radius_of (span_z k d))
+abbrev pub part_in : Option Slot → Option Part
+part_in None = None
+part_in (Some x) = x.part
 
--- slot s has this key
-pub record Holds (k : List ℕ) (s low high : ℕ) : Type 0 where
-  pub low_is : low_in k s ≡ low
-  pub high_is : high_in k s ≡ high
+-- slot s holds this side
+abbrev pub Holds : List (Option Slot) → ℕ → Side → Type 0
+Holds slots s b = side_in (slot_at slots s) ≡ Some b
 
--- the slots but s have their keys in l as in k
-abbrev pub Others : ℕ → List ℕ → List ℕ → Type 0
-Others s k l = (t low high : ℕ) → (t < s) ⊎ (s < t) → Holds k t low high → Holds l t low high
+-- the slots but s hold in l what they hold in k
+abbrev pub Others : ℕ → List (Option Slot) → List (Option Slot) → Type 0
+Others s k l = (t : ℕ) (b : Side) → (t < s) ⊎ (s < t) → Holds k t b → Holds l t b
 
 -- three slots, each among those of its axis
 pub record Slots (p : Places) : Type 0 where
@@ -62,18 +63,13 @@ pub record Slots (p : Places) : Type 0 where
   pub from_z : 128 ≤ p.z
   pub of_z : p.z < 192
 
--- they have the sides of a box
-pub record Ready (k : List ℕ) (b : ShiftedBox) (p : Places) : Type 0 where
-  pub on_x : Holds k p.x b.lx b.hx
-  pub on_y : Holds k p.y b.ly b.hy
-  pub on_z : Holds k p.z b.lz b.hz
+-- they hold the sides of a box
+pub record Ready (slots : List (Option Slot)) (b : ShiftedBox) (p : Places) : Type 0 where
+  pub on_x : Holds slots p.x b.x
+  pub on_y : Holds slots p.y b.y
+  pub on_z : Holds slots p.z b.z
 
--- the radii of the parts that stand from x, y and z on are those of the sides of a box
-pub record Radii (v : List Float) (b : ShiftedBox) (x y z : ℕ) : Type 0 where
-  pub on_x : (part_at v x).radius ≡ radius (side b.lx b.hx)
-  pub on_y : (part_at v y).radius ≡ radius (side b.ly b.hy)
-  pub on_z : (part_at v z).radius ≡ radius (side b.lz b.hz)
-
--- the parts that stand in v stand in w
-abbrev pub Stay : List Float → List Float → Type 0
-Stay v w = (i : ℕ) → i + 10 ≤ 1920 → part_at w i ≡ part_at v i
+-- the second-order term of the parts that stand in three slots, if there are three
+abbrev pub IsTermOf : Gyroid → List (Option Slot) → Places → Option Interval → Type 0
+IsTermOf g slots p q = (x y z : Part) → part_in (slot_at slots p.x) ≡ Some x → part_in (slot_at slots p.y) ≡ Some y → part_in (slot_at slots p.z) ≡ Some z
+    → q ≡ Some (second_of g x.radius y.radius z.radius)

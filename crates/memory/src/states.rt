@@ -1,37 +1,37 @@
-// The state of a box, by the memory.
+// A new memory, and the state of a box by it.
 ghost use Rattle.std.specs.Prelude.{◌≡◌};
 ghost use Rattle.gyroid.specs.InUse.{box_state};
 ghost use Rattle.gyroid.specs.Admitted.{tick_box};
 ghost use Rattle.tree.specs.Box.{Good, lows, highs, box_of};
-ghost use Rattle.gyroid.specs.Numbers.{leaf_at};
-ghost use Rattle.memory.specs.Memory.{Remembers};
 
-use crate::Places;
-use crate::second::second_at;
-use crate::slots::ready;
-use gyroid::State;
-use gyroid::near::state_at;
+use crate::{Memory, Places};
+use gyroid::{Gyroid, State};
 use tree::ShiftedBox;
 
-// The sides are looked up at p, and the second-order term by the depth that is left.
-pub fn state(
-    leaf: &[f64; 34],
-    keys: &mut [usize; 480],
-    parts: &mut [f64; 1984],
-    b: ShiftedBox,
-    p: Places,
-    depth: usize,
-) -> State
-    requires good { Good (box_of b) }
-    requires remembers { Remembers (leaf_at leaf.now) keys.old parts.old }
-    ensures value { result ≡ box_state (leaf_at leaf.now) (tick_box (lows (box_of b)) (highs (box_of b))) }
-    ensures remembers_2 { Remembers (leaf_at leaf.now) keys.new parts.new }
-{
-    let s = p.slots();
-    ready(leaf, keys, parts, b, s);
-    let x = 10 * s.x;
-    let y = 10 * s.y;
-    let z = 10 * s.z;
-    let second = second_at(leaf, keys, parts, b, x, y, z, depth);
-    state_at(leaf, parts, x, y, z, second)
+impl Memory {
+    // Of a leaf: it remembers nothing.
+    pub fn new(leaf: Gyroid) -> Memory
+        ensures { result.leaf ≡ leaf }
+    {
+        Memory {
+            leaf,
+            slots: [None; 192],
+            terms: [None; 32],
+        }
+    }
+
+    // The sides are looked up at p, and the second-order term by the depth that is left.
+    pub fn state(&mut self, b: ShiftedBox, p: Places, depth: usize) -> State
+        requires good { Good (box_of b) }
+        ensures value { result ≡ box_state self.old.leaf (tick_box (lows (box_of b)) (highs (box_of b))) }
+        ensures leaf { self.new.leaf ≡ self.old.leaf }
+    {
+        let p = p.slots();
+        self.ready(b, p);
+        let second = self.second(b, p, depth);
+        match (second, self.part(p.x), self.part(p.y), self.part(p.z)) {
+            (Some(second), Some(x), Some(y), Some(z)) => self.leaf.state_of_parts(x, y, z, second),
+            _ => State::Unsettled,
+        }
+    }
 }

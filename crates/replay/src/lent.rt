@@ -1,40 +1,35 @@
 // The bytes that a case lends to a call.
-ghost use Rattle.std.specs.Prelude.{◌≤◌, length};
+ghost use Rattle.std.specs.Prelude.{◌≤◌, IfOk};
 
-use crate::words::read_front;
-use std::io;
+use lists::{Stop, fill_front};
+use std::array;
 use std::io::Read;
 
 // The bytes of the longest table and of the longest report.
 pub(crate) const LONGEST: usize = 4096;
 
-// Their number by its word. One that stands for a number below 0 goes round to more than is lent.
-pub(crate) fn length_of(n: u64) -> usize {
-    n.wrapping_sub(0x4000_0000_0000_0000) as usize
-}
-
-// The byte after this one; they go round from 1 to 251 by steps of 37.
-fn next(byte: u8) -> u8 {
-    if byte > 214 {
-        return byte - 214;
-    }
-    byte + 37
-}
-
-// Bytes as the harness lends them: none is zero and none is as its neighbour, so that what is left, zeroed or moved can be told.
-pub(crate) fn set_unwritten(s: &mut [u8]) {
-    let mut byte: u8 = 1;
-    for b in s {
-        *b = byte;
-        byte = next(byte);
-    }
-}
-
-// Reads n bytes to the front of s, and the zeros behind them; whether the list has them.
-pub(crate) fn read_padded<R: Read>(list: &mut R, s: &mut [u8], n: usize) -> io::Result<bool>
-    requires n_bound { n ≤ 4096 }
-    requires in_bounds { 4096 ≤ length s.old }
+// Their number by its word; a case is broken whose number is below 0 or above what is lent.
+pub(crate) fn length_of(n: u64) -> Result<usize, Stop>
+    ensures { IfOk result (λ m. m ≤ 4096) }
 {
-    let padded = (n + 7) / 8 * 8;
-    Ok(padded <= read_front(list, s, padded)?)
+    let length = n.wrapping_sub(0x4000_0000_0000_0000) as usize;
+    if length > LONGEST {
+        return Err(Stop::Broken);
+    }
+    Ok(length)
+}
+
+// Bytes as the harness lends them: none is zero and none is as its neighbour, so that what is left, zeroed or moved can be told. They go round
+// from 1 to 251 by steps of 37.
+pub(crate) fn unwritten() -> [u8; LONGEST] {
+    array::from_fn(|i| (37 * i % 251 + 1) as u8)
+}
+
+// The next n bytes of the list, at the front, and the zeros behind them, up to a whole word.
+pub(crate) fn read_padded<R: Read>(list: &mut R, n: usize) -> Result<[u8; LONGEST], Stop>
+    requires { n ≤ 4096 }
+{
+    let mut bytes = [0u8; LONGEST];
+    fill_front(list, &mut bytes, n.next_multiple_of(8))?;
+    Ok(bytes)
 }

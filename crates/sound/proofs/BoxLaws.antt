@@ -1,7 +1,7 @@
 -- The coordinates of a slot, by way of the bits that the code passes on, are those of its box. Assumes nothing.
 use mathlib.Core.Path.{◌≡◌, sym, ap, ◌∙◌}
 use mathlib.Core.Bool.{Bool, ◌&&◌}
-use mathlib.Core.List.{List, [], ◌∷◌}
+use mathlib.Core.List.{List}
 use Prim.Native.Nat.{ℕ}
 use lib.IntN.{ℤ}
 use mir.Syntax.{w64}
@@ -9,7 +9,6 @@ use mir.Val.{to_z, of_z}
 use Rattle.exact.proofs.Size.{within_fits}
 use Rattle.exact.proofs.Signed.{back}
 use Rattle.limits.specs.Ticks.{side}
-use Rattle.tree.specs.Box.{box_from}
 use Rattle.table.specs.Read.{coordinate_in, record_in}
 use Rattle.table.proofs.ReadLaws.{box_is, coordinate_within}
 use Rattle.sound.specs.Sound.{keeps_limits}
@@ -21,12 +20,6 @@ module _ (t : List ℕ) (slot : ℕ) where
 
   plain : (i : ℕ) {z : ℤ} → Read i z → to_z w64 (of_z w64 z) ≡ coordinate_in t slot i
   plain i e = ap (λ (z : ℤ). to_z w64 (of_z w64 z)) e ∙ back (within_fits {n = 2147483648} tt (coordinate_within t slot i))
-
-  pub read_box : {a b c d e f : ℤ} → Read 0 a → Read 1 b → Read 2 c → Read 3 d → Read 4 e → Read 5 f
-      → box_from (to_z w64 (of_z w64 a) ∷ to_z w64 (of_z w64 b) ∷ to_z w64 (of_z w64 c) ∷ [])
-      (to_z w64 (of_z w64 d) ∷ to_z w64 (of_z w64 e) ∷ to_z w64 (of_z w64 f) ∷ []) ≡ (record_in t slot).box
-  read_box a b c d e f =
-      (λ i. record { lx = plain 0 a i; ly = plain 1 b i; lz = plain 2 c i; hx = plain 3 d i; hy = plain 4 e i; hz = plain 5 f i }) ∙ sym (box_is t slot)
 
   -- a side's test, of the coordinates i and j
   pub side_is : {a b : ℤ} {p : Bool} (i j : ℕ) → Read i a → Read j b → p ≡ side (to_z w64 (of_z w64 a)) (to_z w64 (of_z w64 b))

@@ -8,7 +8,7 @@ ghost use Rattle.table.specs.Read.{record_in};
 ghost use Rattle.sound.specs.Sound.{keeps_limits, sound_cell, sound_of};
 
 use limits::ticks::side;
-use table::get::{coordinate_of, depth_of, head_of, next_of, state_of};
+use table::get::{depth_of, head_of, highs_of, lows_of, next_of, state_of};
 use tree::ShiftedBox;
 
 // The tick cubes of all that coordinates reach.
@@ -18,17 +18,17 @@ fn keeps_limits(t: &[u8], slot: usize) -> bool
     requires { 32 * (slot + 1) ≤ length t.now }
     ensures { result ≡ keeps_limits (record_in t.now slot).box }
 {
-    side(coordinate_of(t, slot, 0), coordinate_of(t, slot, 3))
-        & side(coordinate_of(t, slot, 1), coordinate_of(t, slot, 4))
-        & side(coordinate_of(t, slot, 2), coordinate_of(t, slot, 5))
+    let [lx, ly, lz] = lows_of(t, slot);
+    let [hx, hy, hz] = highs_of(t, slot);
+    side(lx, hx) & side(ly, hy) & side(lz, hz)
 }
 
+#[tactic(auto, unfolding(crate::specs::Sound::sound_cell))]
 fn sound_cell(t: &[u8], slot: usize) -> bool
     requires { 32 * (slot + 1) ≤ length t.now }
     ensures { result ≡ sound_cell (record_in t.now slot) }
 {
-    let state = state_of(t, slot);
-    (1 <= state) & (state <= 3) & (depth_of(t, slot) <= 24) & keeps_limits(t, slot)
+    (1..=3).contains(&state_of(t, slot)) & (depth_of(t, slot) <= 24) & keeps_limits(t, slot)
 }
 
 // The box of a sound cell.
@@ -37,18 +37,7 @@ pub fn box_of(t: &[u8], slot: usize) -> ShiftedBox
     requires slot_value { sound_cell (record_in t.now slot) ≡ true }
     ensures { box_of result ≡ (record_in t.now slot).box }
 {
-    ShiftedBox::of(
-        [
-            coordinate_of(t, slot, 0),
-            coordinate_of(t, slot, 1),
-            coordinate_of(t, slot, 2),
-        ],
-        [
-            coordinate_of(t, slot, 3),
-            coordinate_of(t, slot, 4),
-            coordinate_of(t, slot, 5),
-        ],
-    )
+    ShiftedBox::of(lows_of(t, slot), highs_of(t, slot))
 }
 
 pub fn sound(t: &[u8]) -> bool
@@ -60,20 +49,15 @@ pub fn sound(t: &[u8]) -> bool
     }
     let head = head_of(t);
     let n = head.cells;
-    if n < 1 {
+    if n < 1 || room <= n {
         return false;
     }
-    if room <= n {
-        return false;
-    }
+    // The chain is followed by hand: as an iterator it would be no plainer, since what a turn knows of the slot (here what the turns before
+    // have tested) differs from reader to reader.
     let mut slot = head.first;
-    let mut left = n;
     let mut sum: usize = 0;
-    while left > 0 {
-        if slot < 1 {
-            return false;
-        }
-        if n < slot {
+    for _ in 0..n {
+        if !(1..=n).contains(&slot) {
             return false;
         }
         if !sound_cell(t, slot) {
@@ -86,7 +70,6 @@ pub fn sound(t: &[u8]) -> bool
         }
         sum += v;
         slot = next_of(t, slot);
-        left -= 1;
     }
     slot == 0
 }

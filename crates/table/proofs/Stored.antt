@@ -1,7 +1,7 @@
 -- What the stores of each writer leave. Assumes nothing.
 use mathlib.Core.Path.{◌≡◌, refl, sym, ap, ◌∙◌}
 use mathlib.Core.List.{List, ◌++◌}
-use Prim.Native.Nat.{ℕ, ◌+◌, ◌/◌, ◌%◌}
+use Prim.Native.Nat.{ℕ, ◌+◌}
 use native.Mathlib.Omega.{arith}
 use lib.ListN.{length-append, replicate}
 use lib.Seq.{sets}
@@ -14,12 +14,6 @@ use Rattle.table.specs.Read.{state_offset, coordinates_offset}
 use Rattle.table.proofs.Stores.{sets_then}
 use Rattle.table.proofs.Words.{length_word4, length_word8}
 use Rattle.table.proofs.Slots.{length_state}
-
--- a u64
-pub word8_stored : (l : List ℕ) (at x : ℕ) {m r : List ℕ} → m ≡ sets l at (word4 (x % 4294967296)) → r ≡ sets m (at + 4) (word4 (x / 4294967296))
-    → r ≡ sets l at (word8 x)
-unfolding word8
-word8_stored l at x e f = sets_then l at (word4 (x % 4294967296)) (word4 (x / 4294967296)) e f (simp length_word4)
 
 zero_word : word4 0 ≡ replicate 4 0
 unfolding word4
@@ -50,21 +44,22 @@ head_stored l h e1 e2 e3 e4 e5 e6 =
 abbrev corner : ℕ → ℕ → ℕ → List ℕ
 corner x y z = word4 (bits (unshifted x)) ++ word4 (bits (unshifted y)) ++ word4 (bits (unshifted z))
 
-pub corner_stored : (l : List ℕ) (at x y z : ℕ) {wx wy wz : ℕ} {m n r : List ℕ} → wx ≡ bits (unshifted x) → wy ≡ bits (unshifted y) → wz ≡ bits (unshifted z)
-    → m ≡ sets l at (word4 wx) → n ≡ sets m (at + 4) (word4 wy) → r ≡ sets n (at + 8) (word4 wz) → r ≡ sets l at (corner x y z)
-corner_stored l at x y z {wx} {wy} {wz} ex ey ez e f g =
-    sets_then l at (word4 wx ++ word4 wy) (word4 wz) (sets_then l at (word4 wx) (word4 wy) e f (simp length_word4)) g (simp (length-append, length_word4))
-    ∙ (λ k. sets l at (word4 (ex k) ++ word4 (ey k) ++ word4 (ez k)))
+pub corner_stored : (l : List ℕ) (at x y z : ℕ) {m n r : List ℕ} → m ≡ sets l at (word4 (bits (unshifted x)))
+    → n ≡ sets m (at + 4) (word4 (bits (unshifted y))) → r ≡ sets n (at + 8) (word4 (bits (unshifted z))) → r ≡ sets l at (corner x y z)
+corner_stored l at x y z e f g =
+    let one : List ℕ = word4 (bits (unshifted x)) in
+    let two : List ℕ = word4 (bits (unshifted y)) in
+    sets_then l at (one ++ two) (word4 (bits (unshifted z))) (sets_then l at one two e f (simp length_word4)) g (simp (length-append, length_word4))
 
 -- the slot of a cell
 pub cell_stored : (l : List ℕ) (at next state depth : ℕ) (b : ShiftedBox) {j k : ℕ} {m n p r : List ℕ} → m ≡ sets l at (word4 next)
-    → n ≡ sets m (at + state_offset) (state_word state depth) → p ≡ sets n j (corner b.lx b.ly b.lz) → r ≡ sets p k (corner b.hx b.hy b.hz)
+    → n ≡ sets m (at + state_offset) (state_word state depth) → p ≡ sets n j (corner b.x.low b.y.low b.z.low) → r ≡ sets p k (corner b.x.high b.y.high b.z.high)
     → j ≡ at + coordinates_offset → k ≡ at + coordinates_offset + 12
     → r ≡ sets l at (cell_bytes next (record { state = state; depth = depth; box = box_of b }))
 unfolding cell_bytes
 cell_stored l at next state depth b e f g h ej ek =
-    let lows : List ℕ = corner b.lx b.ly b.lz in
-    let highs : List ℕ = corner b.hx b.hy b.hz in
+    let lows : List ℕ = corner b.x.low b.y.low b.z.low in
+    let highs : List ℕ = corner b.x.high b.y.high b.z.high in
     sets_then l at (word4 next ++ state_word state depth ++ lows) highs
     (sets_then l at (word4 next ++ state_word state depth) lows
     (sets_then l at (word4 next) (state_word state depth) e f (simp length_word4)) g

@@ -1,16 +1,22 @@
--- Words of four and eight bytes: their lengths, a number from its bytes, a whole number from its 32 bits. Assumes nothing.
+-- Words of four and eight bytes: their lengths, a number from its bytes and to them, a whole number from its 32 bits and to them. Assumes nothing.
 use mathlib.Core.Path.{◌≡◌, refl, sym, ap, ◌∙◌}
-use mathlib.Core.List.{[], ◌∷◌}
-use Prim.Native.Nat.{ℕ, suc, ◌+◌, ◌-◌, ◌*◌, ◌/◌, ◌%◌, ◌≤◌, ◌<◌}
+use mathlib.Core.List.{List, [], ◌∷◌}
+use Prim.Native.Nat.{ℕ, ◌+◌, ◌-◌, ◌*◌, ◌/◌, ◌%◌, ◌≤◌, ◌<◌}
 use native.Mathlib.Omega.{arith}
 use native.Mathlib.Nat.{div-div-eq-div-mul, div-add-mod', mod-eq_of_lt}
 use borrow.Author.Tests.{lt-ltb, le-ltb}
-use lib.Dec.{ltb, ltb→lt, nltb→le}
 use lib.IntN.{ℤ, pos, negsuc, ◌-ℤ◌}
-use lib.ListN.{length, length-append}
-use Rattle.exact.proofs.Choice.{choose}
+use lib.ListN.{length, get_or, length-append}
+use mir.Syntax.{w32, w64}
+use mir.Val.{to_z, of_z, SFits}
+use Rattle.std.specs.Int.{to_le_bytes}
+use Rattle.std.proofs.lemmas.Int.{to_z-of_z}
+use Rattle.exact.specs.Within.{Within}
 use Rattle.exact.proofs.IntegerOrder.{zarith}
+use Rattle.exact.proofs.Size.{within_of_bounds, within_fits}
+use Rattle.exact.proofs.Signed.{back}
 use Rattle.tree.specs.Box.{unshifted}
+use Rattle.tree.proofs.ShiftedLaws.{unshifted_parts}
 use Rattle.table.specs.Table.{word4, word8, bits, state_word}
 use Rattle.table.specs.Read.{twos_complement}
 use Rattle.table.specs.Bounds.{FitsI32}
@@ -38,18 +44,47 @@ digits x h =
 pub two_words : (x : ℕ) {low high : ℕ} → low ≡ x % 4294967296 → high ≡ x / 4294967296 → low + high * 4294967296 ≡ x
 two_words x e f = omega arith
 
--- ---- the 32 bits of a whole number
--- of a tick, from its shifted coordinate
-pub shifted_bits : (u : ℕ) → u ≤ 2097152 → (u + 4293918720) % 4294967296 ≡ bits (unshifted u)
-shifted_bits u h = choose (ltb u 1048576) (negsuc (1048576 - suc u)) (pos (u - 1048576)) (λ z. (u + 4293918720) % 4294967296 ≡ bits z)
-    (λ t. below u (ltb→lt u 1048576 t)) (λ t. above u h (nltb→le u 1048576 t))
+-- ---- the bytes that the code takes a number apart to
+-- all of a u64
+pub word8_bytes : (x : ℕ) {b : List ℕ} → b ≡ to_le_bytes w64 x → b ≡ word8 x
+unfolding word8 word4
+word8_bytes x e =
+    let first : x % 256 ≡ x % 4294967296 % 256 = omega arith in
+    let second : x / 256 % 256 ≡ x % 4294967296 / 256 % 256 = omega arith in
+    let third : x / 65536 % 256 ≡ x % 4294967296 / 65536 % 256 = omega arith in
+    let fourth : x / 16777216 % 256 ≡ x % 4294967296 / 16777216 % 256 = omega arith in
+    let fifth : x / 1099511627776 % 256 ≡ x / 4294967296 / 256 % 256 = omega arith in
+    let sixth : x / 281474976710656 % 256 ≡ x / 4294967296 / 65536 % 256 = omega arith in
+    let seventh : x / 72057594037927936 % 256 ≡ x / 4294967296 / 16777216 % 256 = omega arith in
+    e ∙ (λ i. first i ∷ second i ∷ third i ∷ fourth i ∷ x / 4294967296 % 256 ∷ fifth i ∷ sixth i ∷ seventh i ∷ [])
+
+-- the first four, as a u32
+pub word4_bytes : (x : ℕ) {b : List ℕ} → b ≡ to_le_bytes w64 x → get_or b 0 0 ∷ get_or b 1 0 ∷ get_or b 2 0 ∷ get_or b 3 0 ∷ [] ≡ word4 x
+unfolding word4
+word4_bytes x e = ap (λ (b : List ℕ). get_or b 0 0 ∷ get_or b 1 0 ∷ get_or b 2 0 ∷ get_or b 3 0 ∷ []) e
+
+-- a tick, from its shifted coordinate, as an i32
+pub tick_bytes : (u : ℕ) → u ≤ 2097152 → {z : ℤ} → z ≡ unshifted u → {b : List ℕ}
+    → b ≡ to_le_bytes w32 (of_z w32 (to_z w32 (of_z w32 (to_z w64 (of_z w64 z))))) → b ≡ word4 (bits (unshifted u))
+unfolding word4
+tick_bytes u h {z} e f =
+    f ∙ ap (λ (t : ℤ). to_le_bytes w32 (of_z w32 (to_z w32 (of_z w32 (to_z w64 (of_z w64 t)))))) e
+    ∙ ap (λ (t : ℤ). to_le_bytes w32 (of_z w32 (to_z w32 (of_z w32 t)))) (back (within_fits {n = 1048576} tt tick))
+    ∙ ap (λ (t : ℤ). to_le_bytes w32 (of_z w32 t)) (to_z-of_z w32 (unshifted u) (fits (unshifted u) tick))
+    ∙ ap (to_le_bytes w32) (same_bits (unshifted u))
   where
-    below : (u : ℕ) → u < 1048576 → (u + 4293918720) % 4294967296 ≡ 4294967295 - (1048576 - suc u)
-    below u k = omega arith
+    tick : Within 1048576 (unshifted u)
+    tick = within_of_bounds 1048576 (omega (zarith, unshifted_parts u)) (omega (zarith, unshifted_parts u))
 
-    above : (u : ℕ) → u ≤ 2097152 → 1048576 ≤ u → (u + 4293918720) % 4294967296 ≡ u - 1048576
-    above u h k = omega arith
+    fits : (t : ℤ) → Within 1048576 t → SFits w32 t
+    fits (pos n) w = record { sfits = omega (arith, w.abs) }
+    fits (negsuc n) w = record { sfits = omega (arith, w.abs) }
 
+    same_bits : (t : ℤ) → of_z w32 t ≡ bits t
+    same_bits (pos n) = refl
+    same_bits (negsuc n) = omega arith
+
+-- ---- the 32 bits of a whole number
 pub twos_complement_low : (w : ℕ) → w < 2147483648 → twos_complement w ≡ pos w
 twos_complement_low w h = rw (lt-ltb w 2147483648 h)
 
@@ -67,7 +102,7 @@ pub bits_below : (z : ℤ) → FitsI32 z → bits z < 4294967296
 bits_below (pos n) h = omega (zarith, h.most)
 bits_below (negsuc n) h = omega arith
 
--- ---- the state word as a number of 32 bits
+-- ---- the state word as a number of 32 bits: the code writes its bytes, and this law of the number stands since documents name it
 two_bytes : (s d : ℕ) → s < 256 → d < 256 → word4 (s + 256 * d) ≡ s ∷ d ∷ 0 ∷ 0 ∷ []
 unfolding word4
 two_bytes s d h k =

@@ -6,12 +6,12 @@ use Rattle.table.specs.Table.{Record}
 
 -- the coordinates of the code's box are those of ticks of −2^20 to 2^20
 pub record WithinTicks (b : ShiftedBox) : Type 0 where
-  pub lx : b.lx ≤ 2097152
-  pub ly : b.ly ≤ 2097152
-  pub lz : b.lz ≤ 2097152
-  pub hx : b.hx ≤ 2097152
-  pub hy : b.hy ≤ 2097152
-  pub hz : b.hz ≤ 2097152
+  pub lx : b.x.low ≤ 2097152
+  pub ly : b.y.low ≤ 2097152
+  pub lz : b.z.low ≤ 2097152
+  pub hx : b.x.high ≤ 2097152
+  pub hy : b.y.high ≤ 2097152
+  pub hz : b.z.high ≤ 2097152
 
 -- slot 0: three u32 and two u64
 pub record HeadFits (h : Head) : Type 0 where

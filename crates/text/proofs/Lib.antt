@@ -8,6 +8,7 @@ mod LineLaws
 pub mod AppendLaws
 mod DecimalLaws
 mod ListingLaws
+mod ChainLaws
 mod CellsLaws
 -- worked by computation
 mod Examples

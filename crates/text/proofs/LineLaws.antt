@@ -11,9 +11,9 @@ use lib.Dec.{leb, eqb, eqb-suc-zero}
 use lib.IntN.{ℤ}
 use lib.Seq.{take-suc-set}
 use lib.ListN.{length, take, set}
-use Rattle.text.specs.declared.parse.Number.{Number}
-use Rattle.text.specs.declared.parse.Number.TheVariants.{Found, Nothing}
-use Rattle.text.specs.Line.{byte_at, is_digit, digits_at, number_at, separator, on_found, refused_line, line_from}
+use Rattle.std.specs.Prelude.{Option, Some, None, option_and_then}
+use Rattle.text.specs.declared.parse.Read.{Read}
+use Rattle.text.specs.Line.{byte_at, is_digit, digits_at, number_at, separator, line_from}
 
 -- ---- a byte
 pub digit_range : (b : ℕ) → is_digit b ≡ true → (48 ≤ b) × (b ≤ 57)
@@ -91,30 +91,30 @@ stored ns k {w} e h = rw (add-one, take-suc-set ns k w h, e)
 
 -- the line after k of its 17 numbers
 module _ (ns : List ℤ) (t : List ℕ) (i k : ℕ) where
-  others : (left : ℕ) → (17 - k ≡ suc left) → line_from (17 - k) ns t i ≡ on_found (number_at t i)
-      (λ x next. cond (eqb (byte_at t next) (separator left)) (line_from left (ns ++ (x ∷ [])) t (next + 1)) refused_line)
+  others : (left : ℕ) → (17 - k ≡ suc left) → line_from (17 - k) ns t i ≡ option_and_then
+      (λ n. cond (eqb (byte_at t n.next) (separator left)) (line_from left (ns ++ (n.value ∷ [])) t (n.next + 1)) None) (number_at t i)
   unfolding line_from
   others left e = rw e
 
-  pub line_no_number : k < 17 → {n : Number} → n ≡ number_at t i → n ≡ Nothing → line_from (17 - k) ns t i ≡ refused_line
+  pub line_no_number : k < 17 → {n : Option (Read ℤ)} → n ≡ number_at t i → n ≡ None → line_from (17 - k) ns t i ≡ None
   line_no_number h e f = others (16 - k) (omega arith) ∙ rw (← e, f)
 
-  pub line_no_separator : k < 17 → {n : Number} {x : ℤ} {next b s : ℕ} → n ≡ number_at t i → n ≡ Found x next → b ≡ byte_at t next → s ≡ separator (16 - k)
-      → (b ≡ s → ⊥) → line_from (17 - k) ns t i ≡ refused_line
+  pub line_no_separator : k < 17 → {n : Option (Read ℤ)} {m : Read ℤ} {b s : ℕ} → n ≡ number_at t i → n ≡ Some m → b ≡ byte_at t m.next
+      → s ≡ separator (16 - k) → (b ≡ s → ⊥) → line_from (17 - k) ns t i ≡ None
   line_no_separator h {b} {s} e f g q d = others (16 - k) (omega arith) ∙ rw (← e, f, ← g, ← q, ne_eqb b s d)
 
-  pub line_step : k < 17 → {n : Number} {x : ℤ} {next b s : ℕ} → n ≡ number_at t i → n ≡ Found x next → b ≡ byte_at t next → s ≡ separator (16 - k)
-      → b ≡ s → line_from (17 - k) ns t i ≡ line_from (17 - (k + 1)) (ns ++ (x ∷ [])) t (next + 1)
-  line_step h {x} {next} {b} {s} e f g q d =
+  pub line_step : k < 17 → {n : Option (Read ℤ)} {m : Read ℤ} {b s : ℕ} → n ≡ number_at t i → n ≡ Some m → b ≡ byte_at t m.next
+      → s ≡ separator (16 - k) → b ≡ s → line_from (17 - k) ns t i ≡ line_from (17 - (k + 1)) (ns ++ (m.value ∷ [])) t (m.next + 1)
+  line_step h {m} {b} {s} e f g q d =
       let less : 17 - (k + 1) ≡ 16 - k = omega arith in
       others (16 - k) (omega arith) ∙ rw (← e, f, ← g, ← q, eq-eqb b s d, less)
 
-  line_end : 17 ≤ k → line_from (17 - k) ns t i ≡ cond (eqb i (length t)) (record { ok = true; numbers = ns }) refused_line
+  line_end : 17 ≤ k → line_from (17 - k) ns t i ≡ cond (eqb i (length t)) (Some ns) None
   unfolding line_from
   line_end h = let z : 17 - k ≡ 0 = omega arith in rw z
 
-  pub line_bytes_after : 17 ≤ k → (i ≡ length t → ⊥) → line_from (17 - k) ns t i ≡ refused_line
+  pub line_bytes_after : 17 ≤ k → (i ≡ length t → ⊥) → line_from (17 - k) ns t i ≡ None
   line_bytes_after h d = line_end h ∙ rw (ne_eqb i (length t) d)
 
-  pub line_whole : 17 ≤ k → i ≡ length t → line_from (17 - k) ns t i ≡ record { ok = true; numbers = ns }
+  pub line_whole : 17 ≤ k → i ≡ length t → line_from (17 - k) ns t i ≡ Some ns
   line_whole h d = line_end h ∙ rw (eq-eqb i (length t) d)

@@ -64,15 +64,8 @@ cells_step n t slot h e =
     ap cell_lines (chain_step n t slot h)
     ∙ ap (λ (s : ℕ). cell_line (record_in t slot) ++ cell_lines (chain (n - 1) t s)) (sym e)
 
-pub length_cells_step : (n : ℕ) (t : List ℕ) (slot : ℕ) {next : ℕ} → 0 < n → next ≡ next_in t slot
-    → length (cell_lines (chain n t slot)) ≡ length (cell_line (record_in t slot)) + length (cell_lines (chain (n - 1) t next))
-length_cells_step n t slot {next} h e = rw (cells_step n t slot h e) (length-append (cell_line (record_in t slot)) (cell_lines (chain (n - 1) t next)))
-
 -- ---- the whole, with slot 0 as it is read
 module _ (t : List ℕ) {h : Head} (e : h ≡ head_in t) where
   pub listing_is : listing t ≡ head_line h ++ cell_lines (chain h.cells t h.first)
   unfolding listing
   listing_is = ap (λ (k : Head). head_line k ++ cell_lines (chain k.cells t k.first)) (sym e)
-
-  pub length_listing : length (listing t) ≡ length (head_line h) + length (cell_lines (chain h.cells t h.first))
-  length_listing = rw listing_is (length-append (head_line h) (cell_lines (chain h.cells t h.first)))

@@ -1,5 +1,6 @@
 -- PROGRAM `cells`, from the bytes that it reads to those that it prints: document 01's words in quotes, and document 02's. Definitions only; assumes
 -- nothing.
+use Rattle.std.specs.Option.{option_map_or}
 use Rattle.std.specs.Prelude.{cond, List, [], ◌∷◌, ℕ, ◌+◌, eqb, ℤ, pos, length, replicate}
 use Rattle.limits.specs.Ticks.{at}
 use Rattle.gyroid.specs.declared.Description.{Description}
@@ -62,4 +63,4 @@ walked_text ns =
 
 -- "program text, before all else | 14: not the line below"
 unfoldable pub cells_text : List ℕ → List ℕ
-cells_text t = cond (line_of t).ok (walked_text (line_of t).numbers) (refused_text 14)
+cells_text t = option_map_or walked_text (line_of t) (refused_text 14)

@@ -1,17 +1,21 @@
 // Program `cells` from the bytes that it reads to the bytes that it prints.
-ghost use Rattle.std.specs.Prelude.{◌≡◌, ◌+◌, ◌≤◌, length};
+ghost use Rattle.std.specs.Prelude.{◌≡◌, ◌+◌, ◌≤◌, length, ok_or, IfOk, IfErr};
 ghost use Rattle.std.proofs.lemmas.List.Edits.{sets};
-ghost use Rattle.text.specs.Listing.{Front};
-ghost use Rattle.text.specs.Cells.{three_from, described, number_of, table_of, walked_text, cells_text};
+ghost use Rattle.limits.specs.Refusals as refusals;
+ghost use Rattle.limits.specs.declared.refusals.Refusal.TheVariants.{Line};
+ghost use Rattle.text.specs.Line.{line_of};
+ghost use Rattle.text.specs.Listing.{refused_text, Front};
+ghost use Rattle.text.specs.Cells.{three_from, described, number_of, table_of, cells_text};
 
 use crate::parse::parse;
 use crate::print::{put_listing, put_refused};
 use grade::Grade;
 use gyroid::{Description, Frame};
+use limits::refusals::Refusal;
 use walk::TieRule;
 use walk::calls::walk;
 
-// Three numbers of a line, from a place on.
+// Three numbers of a line, from a place on. Here and below they go by their places, as in the definitions: `line_of` gives a list, `at ns i` its entry.
 fn three_from(numbers: [i64; 17], at: usize) -> [i64; 3]
     requires { at + 3 ≤ 17 }
     ensures { result ≡ three_from numbers at }
@@ -43,9 +47,16 @@ fn described(numbers: [i64; 17]) -> Description
     }
 }
 
+// The numbers of the line.
+fn line(input: &[u8]) -> Result<[i64; 17], Refusal>
+    ensures { result ≡ ok_or (line_of input.now) Line }
+{
+    parse(input).ok_or(Refusal::Line)
+}
+
 // The walk of a line's numbers, by the lowest-axis rule.
-fn walk_line(numbers: [i64; 17], table: &mut [u8]) -> u32
-    ensures answer { result ≡ number_of numbers (length table.old) }
+fn walk_line(numbers: [i64; 17], table: &mut [u8]) -> Result<(), Refusal>
+    ensures answer { refusals.number_of result ≡ number_of numbers (length table.old) }
     ensures left { table.new ≡ table_of numbers table.old }
 {
     walk(
@@ -58,18 +69,18 @@ fn walk_line(numbers: [i64; 17], table: &mut [u8]) -> u32
     )
 }
 
-// What is printed of a line's numbers.
-fn walked(numbers: [i64; 17], out: &mut [u8; 131072]) -> usize
-    ensures text { out.new ≡ sets out.old 0 (walked_text numbers) }
-    ensures end { result ≡ length (walked_text numbers) }
-    ensures front { Front result out.new }
+// The listing of what the line describes; `out` stays as it was where there is none.
+fn listed(input: &[u8], out: &mut [u8; 131072]) -> Result<usize, Refusal>
+    ensures text { IfOk result (λ _. out.new ≡ sets out.old 0 (cells_text input.now)) }
+    ensures end { IfOk result (λ n. n ≡ length (cells_text input.now)) }
+    ensures front { IfOk result (λ n. Front n out.new) }
+    ensures refused { IfErr result (λ r. refused_text (refusals.number r) ≡ cells_text input.now) }
+    ensures untouched { IfErr result (λ _. out.new ≡ out.old) }
 {
-    let mut table = [0u8; 65536];
-    let number = walk_line(numbers, &mut table);
-    if number != 0 {
-        return put_refused(out, number);
-    }
-    put_listing(&table, out)
+    let numbers = line(input)?;
+    let mut table = [0; 65536];
+    walk_line(numbers, &mut table)?;
+    Ok(put_listing(&table, out))
 }
 
 // Puts what is printed of an input at the front of `out`, and answers its length. The bytes behind it stay as they were.
@@ -78,10 +89,8 @@ pub fn cells(input: &[u8], out: &mut [u8; 131072]) -> usize
     ensures end { result ≡ length (cells_text input.now) }
     ensures front { Front result out.new }
 {
-    let line = parse(input);
-    if !line.ok {
-        return put_refused(out, 14);
+    match listed(input, out) {
+        Ok(end) => end,
+        Err(why) => put_refused(out, u32::from(why)),
     }
-    let numbers = line.numbers;
-    walked(numbers, out)
 }

@@ -1,155 +1,101 @@
 // The line of 17 numbers, read from bytes. Each function equals its definition in specs/.
 ghost use Rattle.std.specs.Prelude.{◌≡◌, ◌<◌};
-ghost use Rattle.text.specs.Line.{byte_at, is_digit, digits_at, with_minus, some_digits, number_at, separator, refused_line, line_of};
+ghost use Rattle.text.specs.Line.{byte_at, digits_at, with_minus, some_digits, number_at, separator, line_of};
 
-use crate::ascii::{MINUS, NEWLINE, NINE, NOUGHT, SPACE};
-
-// A line's numbers, in its order; seventeen zeros where the text is no line.
+// What is read from an index on, the value of some digits or a number, and the index after it. The text is read by index, not by an iterator over
+// it: the definitions speak by index (`digits_at`, `number_at`, `line_from`), and these are their functions.
 #[derive(Clone, Copy)]
-pub struct Line {
-    pub ok: bool,
-    pub numbers: [i64; 17],
-}
-
-// The value of some digits, and the index after them.
-#[derive(Clone, Copy)]
-struct Digits {
-    value: usize,
+struct Read<T> {
+    value: T,
     next: usize,
 }
 
-// A number and the index after it, or none.
-#[derive(Clone, Copy)]
-enum Number {
-    Found(i64, usize),
-    Nothing,
-}
-
-fn wide(x: u8) -> usize
-    ensures value { result ≡ x }
-    ensures upper_bound { result < 256 }
-{
-    x as usize
-}
-
 // The byte at an index, 0 past the end.
-fn byte_at(t: &[u8], i: usize) -> usize
-    ensures value { result ≡ byte_at t.now i }
-    ensures upper_bound { result < 256 }
+fn byte_at(t: &[u8], i: usize) -> u8
+    ensures { result ≡ byte_at t.now i }
 {
-    if i < t.len() {
-        return wide(t[i]);
-    }
-    0
-}
-
-fn is_digit(b: usize) -> bool
-    ensures { result ≡ is_digit b }
-{
-    NOUGHT <= b && b <= NINE
+    t.get(i).copied().unwrap_or(0)
 }
 
 // The digits from an index on, seven at most.
-fn digits_at(t: &[u8], from: usize) -> Digits
+fn digits_at(t: &[u8], from: usize) -> Read<usize>
     ensures value { result ≡ digits_at 7 0 t.now from }
     ensures value_bound { result.value < 10000000 }
 {
     let mut value = 0;
-    let mut i = from;
-    let mut left: usize = 7;
-    while left > 0 {
-        let b = byte_at(t, i);
-        if !is_digit(b) {
-            return Digits {
-                value: value,
-                next: i,
-            };
+    let mut next = from;
+    for _ in 0..7usize {
+        let b = byte_at(t, next);
+        if !b.is_ascii_digit() {
+            break;
         }
-        value = 10 * value + (b - NOUGHT);
-        i += 1;
-        left -= 1;
+        value = 10 * value + (b - b'0') as usize;
+        next += 1;
     }
-    Digits {
-        value: value,
-        next: i,
-    }
+    Read { value, next }
 }
 
-// A number of at most seven digits with its sign.
+// A number of at most seven digits with its sign, a flag as in the definition `with_minus`.
 fn with_minus(minus: bool, value: usize) -> i64
     requires { value < 10000000 }
     ensures { result ≡ with_minus minus value }
 {
     if minus {
-        return 0 - value as i64;
+        return -(value as i64);
     }
     value as i64
 }
 
 // The number that digits from an index on are, if there are any.
-fn some_digits(minus: bool, from: usize, d: Digits) -> Number
+fn some_digits(minus: bool, from: usize, d: Read<usize>) -> Option<Read<i64>>
     requires { d.value < 10000000 }
     ensures { result ≡ some_digits minus from d }
 {
     if d.next == from {
-        return Number::Nothing;
+        return None;
     }
-    Number::Found(with_minus(minus, d.value), d.next)
+    Some(Read {
+        value: with_minus(minus, d.value),
+        next: d.next,
+    })
 }
 
 // The number from an index on.
-fn number_at(t: &[u8], i: usize) -> Number
+fn number_at(t: &[u8], i: usize) -> Option<Read<i64>>
     ensures { result ≡ number_at t.now i }
 {
-    if byte_at(t, i) == MINUS {
-        return some_digits(true, i + 1, digits_at(t, i + 1));
-    }
-    some_digits(false, i, digits_at(t, i))
+    let minus = byte_at(t, i) == b'-';
+    let from = i + usize::from(minus);
+    some_digits(minus, from, digits_at(t, from))
 }
 
 // What stands after a number that `left` others follow.
-fn separator(left: usize) -> usize
+fn separator(left: usize) -> u8
     ensures { result ≡ separator left }
 {
     if left == 0 {
-        return NEWLINE;
+        return b'\n';
     }
-    SPACE
+    b' '
 }
 
-impl Line {
-    fn refused() -> Line
-        ensures { result ≡ refused_line }
-    {
-        Line {
-            ok: false,
-            numbers: [0; 17],
-        }
-    }
-}
-
-pub fn parse(input: &[u8]) -> Line
+// A line's numbers, in its order.
+pub fn parse(input: &[u8]) -> Option<[i64; 17]>
     ensures { result ≡ line_of input.now }
 {
-    let mut numbers = [0i64; 17];
+    let mut numbers = [0; 17];
     let mut at = 0;
-    let mut k = 0;
-    while k < 17 {
-        let Number::Found(value, next) = number_at(input, at) else {
-            return Line::refused();
-        };
-        if byte_at(input, next) != separator(16 - k) {
-            return Line::refused();
+    // By place: behind `iter_mut` a proof knows no numbers.
+    for k in 0..17 {
+        let number = number_at(input, at)?;
+        if byte_at(input, number.next) != separator(16 - k) {
+            return None;
         }
-        numbers[k] = value;
-        at = next + 1;
-        k += 1;
+        numbers[k] = number.value;
+        at = number.next + 1;
     }
     if at != input.len() {
-        return Line::refused();
+        return None;
     }
-    Line {
-        ok: true,
-        numbers: numbers,
-    }
+    Some(numbers)
 }

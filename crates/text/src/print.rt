@@ -1,85 +1,18 @@
-// The text that program `cells` prints, put into lent bytes. A function that has `at` puts its text behind the first `at` bytes and answers
-// the index after it; every other byte stays as it was.
-ghost use Rattle.std.specs.Prelude.{◌≡◌, [], ◌∷◌, ◌+◌, ◌*◌, ◌≤◌, ◌<◌, nat_abs, length};
+// The text that program `cells` prints, written into lent bytes.
+ghost use Rattle.std.specs.Prelude.{◌≡◌, [], ◌∷◌, ◌+◌, ◌≤◌, ◌<◌, length};
 ghost use Rattle.std.proofs.lemmas.List.Edits.{sets};
-ghost use Rattle.exact.specs.Within.{Within};
 ghost use Rattle.table.specs.Read.{next_in, coordinate_in, record_in, chain};
 ghost use Rattle.text.specs.Appended.{Appended, corner_in};
 ghost use Rattle.text.specs.Decimal.{decimal, signed_decimal};
 ghost use Rattle.text.specs.Listing.{spaced, refused_text, head_line, cell_line, cell_lines, listing, Front};
 
-use crate::ascii::{MINUS, NEWLINE, NOUGHT, SPACE};
 use table::Head;
 use table::get::{coordinate_of, head_of, next_of, state_of};
 
-fn put_byte(out: &mut [u8], at: usize, b: usize) -> usize
-    requires at_in_bounds { at + 1 ≤ length out.old }
-    requires b_bound { b < 256 }
-    ensures { Appended out.old at (b ∷ []) out.new result }
-{
-    out[at] = b as u8;
-    at + 1
-}
-
-fn put_text(out: &mut [u8], at: usize, text: &[u8]) -> usize
-    requires { at + length text.now ≤ length out.old }
-    ensures { Appended out.old at text.now out.new result }
-{
-    let mut i = 0;
-    while i < text.len() {
-        out[at + i] = text[i];
-        i += 1;
-    }
-    at + i
-}
-
-// The digits before the last, and then the last.
-fn put_decimal(out: &mut [u8], at: usize, n: usize) -> usize
-    requires { at + length (decimal n) ≤ length out.old }
-    ensures { Appended out.old at (decimal n) out.new result }
-{
-    if n < 10 {
-        return put_byte(out, at, NOUGHT + n);
-    }
-    let last = put_decimal(out, at, n / 10);
-    put_byte(out, last, NOUGHT + n % 10)
-}
-
-fn size(x: i64) -> usize
-    requires { Within 2147483648 x }
-    ensures { result ≡ nat_abs x }
-{
-    if x < 0 {
-        return (0 - x) as usize;
-    }
-    x as usize
-}
-
-fn put_signed(out: &mut [u8], at: usize, x: i64) -> usize
-    requires within { Within 2147483648 x }
-    requires x_in_bounds { at + length (signed_decimal x) ≤ length out.old }
-    ensures { Appended out.old at (signed_decimal x) out.new result }
-{
-    let n = size(x);
-    if x < 0 {
-        let next = put_byte(out, at, MINUS);
-        return put_decimal(out, next, n);
-    }
-    put_decimal(out, at, n)
-}
-
-// A number behind another.
-fn put_spaced(out: &mut [u8], at: usize, n: usize) -> usize
-    requires { at + length (spaced (decimal n)) ≤ length out.old }
-    ensures { Appended out.old at (spaced (decimal n)) out.new result }
-{
-    let next = put_byte(out, at, SPACE);
-    put_decimal(out, next, n)
-}
-
 // ---- a cell's record; a chain may name slots past the table's end, and zeros are read there
-fn next_slot(table: &[u8], slot: usize) -> usize
-    requires { length table.now ≡ 65536 }
+// The table and the slot stay two arguments: behind a struct's field the check does not know the array's length, on which the zeros stand.
+// The three stay apart: one function that is given the reading as a closure passes on its contract too, and is no plainer.
+fn next_slot(table: &[u8; 65536], slot: usize) -> usize
     ensures { result ≡ next_in table.now slot }
 {
     if slot < 2048 {
@@ -88,8 +21,7 @@ fn next_slot(table: &[u8], slot: usize) -> usize
     0
 }
 
-fn state(table: &[u8], slot: usize) -> usize
-    requires { length table.now ≡ 65536 }
+fn state(table: &[u8; 65536], slot: usize) -> usize
     ensures { result ≡ (record_in table.now slot).state }
 {
     if slot < 2048 {
@@ -98,9 +30,8 @@ fn state(table: &[u8], slot: usize) -> usize
     0
 }
 
-fn coordinate(table: &[u8], slot: usize, i: usize) -> i64
-    requires table_len { length table.now ≡ 65536 }
-    requires i_bound { i < 6 }
+fn coordinate(table: &[u8; 65536], slot: usize, i: usize) -> i64
+    requires { i < 6 }
     ensures { result ≡ coordinate_in table.now slot i }
 {
     if slot < 2048 {
@@ -109,71 +40,130 @@ fn coordinate(table: &[u8], slot: usize, i: usize) -> i64
     0
 }
 
-fn put_coordinate(table: &[u8], slot: usize, i: usize, out: &mut [u8], at: usize) -> usize
-    requires table_len { length table.now ≡ 65536 }
-    requires i_bound { i < 6 }
-    requires i_in_bounds { at + length (spaced (signed_decimal (coordinate_in table.now slot i))) ≤ length out.old }
-    ensures { Appended out.old at (spaced (signed_decimal (coordinate_in table.now slot i))) out.new result }
-{
-    let x = coordinate(table, slot, i);
-    let next = put_byte(out, at, SPACE);
-    put_signed(out, next, x)
+// A text in lent bytes: it ends before `at`. Each method writes behind it and leaves every other byte as it was. A model that shows the text alone
+// would forget which bytes were lent, and so what they hold in the end.
+#[derive(Drop)]
+struct Text<'a> {
+    out: &'a mut [u8; 131072],
+    at: usize,
 }
 
-// Three coordinates of a cell, from the i-th on.
-fn put_corner(table: &[u8], slot: usize, i: usize, out: &mut [u8], at: usize) -> usize
-    requires table_len { length table.now ≡ 65536 }
-    requires i_bound { i + 2 < 6 }
-    requires i_in_bounds { at + length (corner_in table.now slot i) ≤ length out.old }
-    ensures { Appended out.old at (corner_in table.now slot i) out.new result }
-{
-    let y = put_coordinate(table, slot, i, out, at);
-    let z = put_coordinate(table, slot, i + 1, out, y);
-    put_coordinate(table, slot, i + 2, out, z)
-}
-
-// The line of a cell.
-fn put_cell(table: &[u8], slot: usize, out: &mut [u8], at: usize) -> usize
-    requires table_len { length table.now ≡ 65536 }
-    requires slot_in_bounds { at + length (cell_line (record_in table.now slot)) ≤ length out.old }
-    ensures { Appended out.old at (cell_line (record_in table.now slot)) out.new result }
-{
-    let lows = put_decimal(out, at, state(table, slot));
-    let highs = put_corner(table, slot, 0, out, lows);
-    let end = put_corner(table, slot, 3, out, highs);
-    put_byte(out, end, NEWLINE)
-}
-
-// The lines of so many cells of the chain from a slot on.
-fn put_cells(table: &[u8], first: usize, cells: usize, out: &mut [u8], from: usize) -> usize
-    requires table_len { length table.now ≡ 65536 }
-    requires first_in_bounds { from + length (cell_lines (chain cells table.now first)) ≤ length out.old }
-    ensures { Appended out.old from (cell_lines (chain cells table.now first)) out.new result }
-{
-    let mut at = from;
-    let mut slot = first;
-    let mut left = cells;
-    while left > 0 {
-        at = put_cell(table, slot, out, at);
-        slot = next_slot(table, slot);
-        left -= 1;
+impl Text<'_> {
+    fn byte(&mut self, b: u8)
+        requires { self.old.at + 1 ≤ 131072 }
+        ensures { Appended self.old (b ∷ []) self.new }
+    {
+        self.out[self.at] = b;
+        self.at += 1;
     }
-    at
-}
 
-// The first line.
-fn put_head(out: &mut [u8], at: usize, head: Head) -> usize
-    requires { at + length (head_line head) ≤ length out.old }
-    ensures { Appended out.old at (head_line head) out.new result }
-{
-    let second = put_decimal(out, at, head.cells);
-    let third = put_spaced(out, second, head.evaluated);
-    let fourth = put_spaced(out, third, head.solid);
-    let end = put_spaced(out, fourth, head.open);
-    put_byte(out, end, NEWLINE)
+    fn bytes(&mut self, text: &[u8])
+        requires { self.old.at + length text.now ≤ 131072 }
+        ensures { Appended self.old text.now self.new }
+    {
+        let at = self.at;
+        let end = at + text.len();
+        let out = &mut self.out[..];
+        out[at..end].copy_from_slice(text);
+        self.at = end;
+    }
+
+    // The digits before the last, and then the last. They go straight behind the text: a buffer of digits, as Rattle's itoa has one, would be
+    // copied, which is no plainer.
+    #[tactic(auto, using(crate::proofs::DecimalLaws::length_digit, crate::proofs::DecimalLaws::length_digits))]
+    fn decimal(&mut self, n: usize)
+        requires { self.old.at + length (decimal n) ≤ 131072 }
+        ensures { Appended self.old (decimal n) self.new }
+    {
+        if n < 10 {
+            return self.byte(b'0' + n as u8);
+        }
+        self.decimal(n / 10);
+        self.byte(b'0' + (n % 10) as u8);
+    }
+
+    fn signed(&mut self, x: i64)
+        requires { self.old.at + length (signed_decimal x) ≤ 131072 }
+        ensures { Appended self.old (signed_decimal x) self.new }
+    {
+        let size = x.unsigned_abs() as usize;
+        if x < 0 {
+            self.byte(b'-');
+            return self.decimal(size);
+        }
+        self.decimal(size);
+    }
+
+    // A number behind another.
+    #[tactic(auto, using(crate::proofs::AppendLaws::then_appended))]
+    fn spaced(&mut self, n: usize)
+        requires { self.old.at + length (spaced (decimal n)) ≤ 131072 }
+        ensures { Appended self.old (spaced (decimal n)) self.new }
+    {
+        self.byte(b' ');
+        self.decimal(n);
+    }
+
+    fn coordinate(&mut self, table: &[u8; 65536], slot: usize, i: usize)
+        requires i_bound { i < 6 }
+        requires room { self.old.at + length (spaced (signed_decimal (coordinate_in table.now slot i))) ≤ 131072 }
+        ensures { Appended self.old (spaced (signed_decimal (coordinate_in table.now slot i))) self.new }
+    {
+        self.byte(b' ');
+        self.signed(coordinate(table, slot, i));
+    }
+
+    // Three coordinates of a cell, from the i-th on.
+    #[tactic(auto, unfolding(crate::specs::Listing::corner_text))]
+    fn corner(&mut self, table: &[u8; 65536], slot: usize, i: usize)
+        requires i_bound { i + 2 < 6 }
+        requires room { self.old.at + length (corner_in table.now slot i) ≤ 131072 }
+        ensures { Appended self.old (corner_in table.now slot i) self.new }
+    {
+        self.coordinate(table, slot, i);
+        self.coordinate(table, slot, i + 1);
+        self.coordinate(table, slot, i + 2);
+    }
+
+    // The line of a cell.
+    fn cell(&mut self, table: &[u8; 65536], slot: usize)
+        requires { self.old.at + length (cell_line (record_in table.now slot)) ≤ 131072 }
+        ensures { Appended self.old (cell_line (record_in table.now slot)) self.new }
+    {
+        self.decimal(state(table, slot));
+        self.corner(table, slot, 0);
+        self.corner(table, slot, 3);
+        self.byte(b'\n');
+    }
+
+    // The lines of so many cells of the chain from a slot on. An iterator over the chain would have the invariant of this loop beside it all the same.
+    fn cells(&mut self, table: &[u8; 65536], first: usize, cells: usize)
+        requires { self.old.at + length (cell_lines (chain cells table.now first)) ≤ 131072 }
+        ensures { Appended self.old (cell_lines (chain cells table.now first)) self.new }
+    {
+        let mut slot = first;
+        for _ in 0..cells {
+            self.cell(table, slot);
+            slot = next_slot(table, slot);
+        }
+    }
+
+    // The first line.
+    #[tactic(auto, unfolding(crate::specs::Listing::head_line))]
+    fn head(&mut self, head: Head)
+        requires { self.old.at + length (head_line head) ≤ 131072 }
+        ensures { Appended self.old (head_line head) self.new }
+    {
+        self.decimal(head.cells);
+        self.spaced(head.evaluated);
+        self.spaced(head.solid);
+        self.spaced(head.open);
+        self.byte(b'\n');
+    }
 }
 
 // What is printed of a table.
+#[tactic(auto, unfolding(crate::specs::Listing::listing))]
 pub fn put_listing(table: &[u8; 65536], out: &mut [u8; 131072]) -> usize
     requires { length (listing table.now) ≤ 131072 }
     ensures text { out.new ≡ sets out.old 0 (listing table.now) }
@@ -181,8 +171,10 @@ pub fn put_listing(table: &[u8; 65536], out: &mut [u8; 131072]) -> usize
     ensures front { Front result out.new }
 {
     let head = head_of(table);
-    let second = put_head(out, 0, head);
-    put_cells(table, head.first, head.cells, out, second)
+    let mut text = Text { out, at: 0 };
+    text.head(head);
+    text.cells(table, head.first, head.cells);
+    text.at
 }
 
 // What is printed of a refusal.
@@ -191,7 +183,9 @@ pub fn put_refused(out: &mut [u8; 131072], n: u32) -> usize
     ensures end { result ≡ length (refused_text n) }
     ensures front { Front result out.new }
 {
-    let word = put_text(out, 0, b"refused");
-    let end = put_spaced(out, word, n as usize);
-    put_byte(out, end, NEWLINE)
+    let mut text = Text { out, at: 0 };
+    text.bytes(b"refused");
+    text.spaced(n as usize);
+    text.byte(b'\n');
+    text.at
 }

@@ -4,12 +4,12 @@ use Rattle.tree.specs.declared.ShiftedBox.{ShiftedBox}
 use Rattle.tree.specs.Box.{unshifted, box_of}
 
 pub coordinates : (b : ShiftedBox) → box_of b ≡ record {
-  lx = unshifted b.lx;
-  ly = unshifted b.ly;
-  lz = unshifted b.lz;
-  hx = unshifted b.hx;
-  hy = unshifted b.hy;
-  hz = unshifted b.hz;
+  lx = unshifted b.x.low;
+  ly = unshifted b.y.low;
+  lz = unshifted b.z.low;
+  hx = unshifted b.x.high;
+  hy = unshifted b.y.high;
+  hz = unshifted b.z.high;
 }
 unfolding box_of
 coordinates b = refl

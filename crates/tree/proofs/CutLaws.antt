@@ -40,7 +40,8 @@ module _ (a : Axis) (b : Box) where
   unfolding cut
   cut_longer q h = sym (rw (ne_eqb (span a b) (span (longest b) b) (λ e. omega (arith, e, h, longest_most b q))))
 
--- by the code's test, whether no other span is longer: s is the span on a, and t and u are those on the other axes, o and p
+-- by a test, whether no other span is longer: s is the span on a, and t and u are those on the other axes, o and p. The code of `cut` is proved
+-- without the two laws; they stand because docs/landings/L06.md names them.
 module _ (a o p : Axis) (b : Box) {s t u : ℕ} (on-a : s ≡ span a b) (on-o : t ≡ span o b) (on-p : u ≡ span p b) where
   pub cut_among : ((P : Axis → Type 0) → P a → P o → P p → (q : Axis) → P q) → (leb t s && leb u s) ≡ true → a ≡ cut a b
   cut_among each e = go (leb t s) (leb u s) refl refl e

@@ -37,6 +37,9 @@ module _ (b : Box) where
   unfolding one_cube
   one_cube_lem p q r = rw (eq-eqb (span X b) 1 p, eq-eqb (span Y b) 1 q, eq-eqb (span Z b) 1 r)
 
+-- the three, as the code's tests decide
+pub ruleset by_tests = (longest_x, longest_y, longest_z)
+
 -- ---- no span is longer than the longest
 longest_of : (s : Axis → ℕ) (t v w : Bool) → leb (s Y) (s X) ≡ t → leb (s Z) (s X) ≡ v → leb (s Z) (s Y) ≡ w → (a : Axis)
     → s a ≤ s (cond t (cond v X Z) (cond w Y Z))

@@ -1,6 +1,5 @@
 -- What a good box says of the numbers of the code's box that stands for it: a coordinate is kept as the whole number x + 2^20. Assumes nothing.
-use mathlib.Core.Path.{◌≡◌, refl}
-use mathlib.Core.List.{[], ◌∷◌}
+use mathlib.Core.Path.{◌≡◌}
 use Prim.Native.Nat.{ℕ, ◌+◌, ◌-◌, ◌≤◌, ◌<◌}
 use native.Mathlib.Omega.{arith}
 use lib.IntN.{pos, nat_abs, ◌+ℤ◌, ◌-ℤ◌}
@@ -8,7 +7,7 @@ use lib.Signed.{◌≤ℤ◌, ◌<ℤ◌}
 use Rattle.exact.proofs.IntegerOrder.{pos_part, neg_part, sum_parts, difference_parts, parts_eq, zarith}
 use Rattle.tree.specs.declared.Axis.TheVariants.{X, Y, Z}
 use Rattle.tree.specs.declared.ShiftedBox.{ShiftedBox}
-use Rattle.tree.specs.Box.{Good, span, lows, highs, unshifted, box_of}
+use Rattle.tree.specs.Box.{Good, span, unshifted, box_of}
 use Rattle.tree.proofs.Spans.{span_is}
 
 -- ---- one coordinate
@@ -37,22 +36,22 @@ axial l h p q =
 
 -- ---- a box
 pub record GoodShifted (b : ShiftedBox) : Type 0 where
-  pub below_x : b.lx < b.hx
-  pub below_y : b.ly < b.hy
-  pub below_z : b.lz < b.hz
-  pub most_x : b.hx ≤ 2097152
-  pub most_y : b.hy ≤ 2097152
-  pub most_z : b.hz ≤ 2097152
-  pub span_x : span X (box_of b) ≡ b.hx - b.lx
-  pub span_y : span Y (box_of b) ≡ b.hy - b.ly
-  pub span_z : span Z (box_of b) ≡ b.hz - b.lz
+  pub below_x : b.x.low < b.x.high
+  pub below_y : b.y.low < b.y.high
+  pub below_z : b.z.low < b.z.high
+  pub most_x : b.x.high ≤ 2097152
+  pub most_y : b.y.high ≤ 2097152
+  pub most_z : b.z.high ≤ 2097152
+  pub span_x : span X (box_of b) ≡ b.x.high - b.x.low
+  pub span_y : span Y (box_of b) ≡ b.y.high - b.y.low
+  pub span_z : span Z (box_of b) ≡ b.z.high - b.z.low
 
 pub good_shifted : (b : ShiftedBox) → Good (box_of b) → GoodShifted b
 unfolding box_of
 good_shifted b g =
-    let x = axial b.lx b.hx (g.spans X) (g.most X) in
-    let y = axial b.ly b.hy (g.spans Y) (g.most Y) in
-    let z = axial b.lz b.hz (g.spans Z) (g.most Z) in
+    let x = axial b.x.low b.x.high (g.spans X) (g.most X) in
+    let y = axial b.y.low b.y.high (g.spans Y) (g.most Y) in
+    let z = axial b.z.low b.z.high (g.spans Z) (g.most Z) in
     record {
       below_x = x.below;
       below_y = y.below;
@@ -65,11 +64,25 @@ good_shifted b g =
       span_z = z.long;
     }
 
--- its lows and highs, as they are passed on
-pub lows_shifted : (b : ShiftedBox) → lows (box_of b) ≡ unshifted b.lx ∷ unshifted b.ly ∷ unshifted b.lz ∷ []
-unfolding box_of
-lows_shifted b = refl
+-- its ends are in order
+pub order_x : (b : ShiftedBox) → Good (box_of b) → b.x.low ≤ b.x.high
+order_x b g = omega (arith, (good_shifted b g).below_x)
 
-pub highs_shifted : (b : ShiftedBox) → highs (box_of b) ≡ unshifted b.hx ∷ unshifted b.hy ∷ unshifted b.hz ∷ []
-unfolding box_of
-highs_shifted b = refl
+pub order_y : (b : ShiftedBox) → Good (box_of b) → b.y.low ≤ b.y.high
+order_y b g = omega (arith, (good_shifted b g).below_y)
+
+pub order_z : (b : ShiftedBox) → Good (box_of b) → b.z.low ≤ b.z.high
+order_z b g = omega (arith, (good_shifted b g).below_z)
+
+-- and it is as long on an axis as they are apart
+pub x_span : (b : ShiftedBox) → Good (box_of b) → span X (box_of b) ≡ b.x.high - b.x.low
+x_span b g = (good_shifted b g).span_x
+
+pub y_span : (b : ShiftedBox) → Good (box_of b) → span Y (box_of b) ≡ b.y.high - b.y.low
+y_span b g = (good_shifted b g).span_y
+
+pub z_span : (b : ShiftedBox) → Good (box_of b) → span Z (box_of b) ≡ b.z.high - b.z.low
+z_span b g = (good_shifted b g).span_z
+
+-- what a function over the code's box needs of its sides
+pub ruleset sides = (order_x, order_y, order_z, x_span, y_span, z_span)

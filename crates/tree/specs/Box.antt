@@ -1,9 +1,12 @@
 -- A BOX OF WHOLE TICKS AND ITS HALVES: document 01's "The walk (added)", its words in quotes. Coordinates are signed, in ticks. Definitions
 -- only; assumes nothing.
-use Rattle.std.specs.Prelude.{Bool, cond, ◌&&◌, List, [], ◌∷◌, ℕ, ◌+◌, ◌*◌, ◌/◌, eqb, leb, ℤ, pos, negsuc, nat_abs, ◌+ℤ◌, ◌-ℤ◌, get_or, ◌≤ℤ◌, ◌<ℤ◌}
+use Rattle.std.specs.Prelude.{Bool, cond, ◌&&◌, List, [], ◌∷◌, ℕ, ◌+◌, ◌-◌, ◌*◌, ◌/◌, eqb, leb, ℤ, pos, negsuc, nat_abs, ◌+ℤ◌, ◌-ℤ◌, get_or, ◌≤ℤ◌, ◌<ℤ◌}
 use Rattle.std.specs.Int.Signed.{le_z}
 use Rattle.tree.specs.declared.Axis.{Axis}
 use Rattle.tree.specs.declared.Axis.TheVariants.{X, Y, Z}
+use Rattle.tree.specs.declared.Half.{Half}
+use Rattle.tree.specs.declared.Half.TheVariants.{Lower, Upper}
+use Rattle.tree.specs.declared.Side.{Side}
 use Rattle.tree.specs.declared.ShiftedBox.{ShiftedBox}
 
 -- three lows and three highs
@@ -77,6 +80,11 @@ upper X b = record { lx = middle X b; ly = b.ly; lz = b.lz; hx = b.hx; hy = b.hy
 upper Y b = record { lx = b.lx; ly = middle Y b; lz = b.lz; hx = b.hx; hy = b.hy; hz = b.hz }
 upper Z b = record { lx = b.lx; ly = b.ly; lz = middle Z b; hx = b.hx; hy = b.hy; hz = b.hz }
 
+-- either of them
+abbrev pub half_of : Half → Axis → Box → Box
+half_of Lower a b = lower a b
+half_of Upper a b = upper a b
+
 -- "one tick cube (all spans 1)"
 unfoldable pub one_cube : Box → Bool
 one_cube b = eqb (span X b) 1 && eqb (span Y b) 1 && eqb (span Z b) 1
@@ -113,10 +121,15 @@ unshifted u = pos u -ℤ pos 1048576
 -- the box that the code's box stands for
 unfoldable pub box_of : ShiftedBox → Box
 box_of b = record {
-  lx = unshifted b.lx;
-  ly = unshifted b.ly;
-  lz = unshifted b.lz;
-  hx = unshifted b.hx;
-  hy = unshifted b.hy;
-  hz = unshifted b.hz;
+  lx = unshifted b.x.low;
+  ly = unshifted b.y.low;
+  lz = unshifted b.z.low;
+  hx = unshifted b.x.high;
+  hy = unshifted b.y.high;
+  hz = unshifted b.z.high;
 }
+
+-- the halves of a side
+abbrev pub half_side : Half → Side → Side
+half_side Lower s = record { low = s.low; high = s.low + (s.high - s.low) / 2 }
+half_side Upper s = record { low = s.low + (s.high - s.low) / 2; high = s.high }

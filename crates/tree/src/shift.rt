@@ -4,7 +4,7 @@ ghost use Rattle.exact.specs.Within.{Within};
 ghost use Rattle.tree.specs.Box.{unshifted, box_from, box_of};
 ghost use Rattle.tree.specs.InTicks.{InTicks};
 
-use crate::ShiftedBox;
+use crate::{ShiftedBox, Side};
 
 pub fn shift(x: i64) -> usize
     requires { Within 1048576 x }
@@ -20,24 +20,29 @@ pub fn unshift(u: usize) -> i64
     u as i64 - 1048576
 }
 
+impl Side {
+    pub fn of(low: i64, high: i64) -> Side
+        requires low_bound { Within 1048576 low }
+        requires high_bound { Within 1048576 high }
+        ensures low { unshifted result.low ≡ low }
+        ensures high { unshifted result.high ≡ high }
+    {
+        Side {
+            low: shift(low),
+            high: shift(high),
+        }
+    }
+}
+
 impl ShiftedBox {
     pub fn of(lo: [i64; 3], hi: [i64; 3]) -> ShiftedBox
         requires { InTicks (box_from lo hi) }
         ensures { box_of result ≡ box_from lo hi }
     {
-        let lx = shift(lo[0]);
-        let ly = shift(lo[1]);
-        let lz = shift(lo[2]);
-        let hx = shift(hi[0]);
-        let hy = shift(hi[1]);
-        let hz = shift(hi[2]);
         ShiftedBox {
-            lx,
-            ly,
-            lz,
-            hx,
-            hy,
-            hz,
+            x: Side::of(lo[0], hi[0]),
+            y: Side::of(lo[1], hi[1]),
+            z: Side::of(lo[2], hi[2]),
         }
     }
 }

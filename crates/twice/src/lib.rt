@@ -10,9 +10,11 @@ ghost use Rattle.capi.specs.Exports as exports;
 
 use crate::two_passes::walk_twice;
 use capi::lengths::walk_lent;
-use capi::reading::{describe, rule_of, whole_point};
+use capi::reading::{describe, three_at};
+use capi::writing::done;
 
 // As `gyroid_walk`.
+#[tactic(auto, unfolding(capi::specs::Exports::walk_status, capi::specs::Exports::walk_left))]
 pub fn gyroid_walk_twice(
     description: &[i64],
     bounds: &[i64],
@@ -23,16 +25,15 @@ pub fn gyroid_walk_twice(
     ensures answer { result ≡ exports.walk_status description.now bounds.now depth rule (length table.old) }
     ensures left { table.new ≡ exports.walk_left description.now bounds.now depth rule table.old }
 {
-    let number = walk_lent(description.len(), bounds.len(), rule);
-    if number != 0 {
-        return number;
+    match walk_lent(description.len(), bounds.len(), rule) {
+        Ok(rule) => done(walk_twice(
+            describe(description),
+            three_at(bounds, 0),
+            three_at(bounds, 3),
+            depth,
+            rule,
+            table,
+        )),
+        Err(fault) => fault.into(),
     }
-    walk_twice(
-        describe(description),
-        whole_point(bounds, 0),
-        whole_point(bounds, 3),
-        depth,
-        rule_of(rule),
-        table,
-    )
 }

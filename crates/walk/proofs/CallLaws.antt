@@ -1,6 +1,6 @@
 -- What a walk has tested before it walks, and what it returns and leaves. Assumes nothing.
-use mathlib.Core.Path.{◌≡◌, sym, ap, ◌∙◌, subst⁻¹}
-use mathlib.Core.Bool.{not, ◌&&◌}
+use mathlib.Core.Path.{◌≡◌, refl, sym, ap, ◌∙◌, subst, subst⁻¹}
+use mathlib.Core.Bool.{not, cond, ◌&&◌}
 use mathlib.Core.List.{List}
 use Prim.Native.Nat.{ℕ, ◌+◌, ◌-◌, ◌*◌, ◌/◌, ◌≤◌, ◌<◌}
 use native.Mathlib.Omega.{arith}
@@ -12,33 +12,28 @@ use lib.Signed.{◌<ℤ◌, le_z, lt_z, non_neg, le_z_yes, lt_z_yes, yes_non_neg
 use lib.Seq.{sets}
 use mir.Syntax.{w64}
 use mir.Val.{to_z, of_z, Fits, SFits}
-use borrow.Author.Tests.{lt-ltb, le-ltb, eq-eqb, ne_eqb}
+use borrow.Author.Tests.{lt-ltb, le-ltb, eq-eqb}
+use Rattle.std.specs.Prelude.{Result, IsErr, IsErrAnd}
 use Rattle.exact.specs.Within.{Within}
 use Rattle.exact.proofs.Signed.{back, heard}
 use Rattle.limits.specs.Ticks.{at, ticks}
-use Rattle.limits.specs.Refusals.{refused, ◌or_else◌}
+use Rattle.limits.specs.declared.refusals.Refusal.{Refusal}
+use Rattle.limits.specs.Refusals.{refused, ◌or_else◌, number, number_of}
 use Rattle.limits.proofs.TickLaws.{both}
 use Rattle.grade.proofs.EntryLaws.{ticks_within}
-use Rattle.limits.proofs.RefusalLaws.{none_first, none_last, kept, neither}
+use Rattle.limits.proofs.RefusalLaws.{none_first, none_last, kept, neither, stopped, passed_on, refused_said}
 use Rattle.grade.specs.InUse.{in_use}
-use Rattle.grade.specs.declared.AnchorAxis.{AnchorAxis}
-use Rattle.grade.specs.Certified.{def_axis}
-use Rattle.gyroid.specs.declared.Compiled.{Compiled}
 use Rattle.gyroid.specs.declared.Description.{Description}
 use Rattle.gyroid.specs.declared.Gyroid.{Gyroid}
 use Rattle.gyroid.specs.Refusals.{refusal}
 use Rattle.gyroid.specs.InUse.{leaf}
-use Rattle.gyroid.specs.FunctionsInUse.{certified}
-use Rattle.gyroid.proofs.LeafLaws.{number_is, leaf_is, grade_is}
 use Rattle.tree.specs.declared.Axis.{Axis}
-use Rattle.tree.specs.Box.{Box, Good, box_from, low, high}
+use Rattle.tree.specs.Box.{Box, Good, box_from, box_of, cut, low, high}
 use Rattle.tree.specs.InTicks.{InTicks}
 use Rattle.tree.specs.Tree.{leaves, cells}
 use Rattle.tree.proofs.HalfLaws.{by_axis}
 use Rattle.tree.proofs.TickLaws.{ticks_good}
 use Rattle.tree.proofs.CountLaws.{length_cells}
-use Rattle.gyroid.specs.Numbers.{Lendable}
-use Rattle.gyroid.proofs.LentLaws.{leaf_lendable}
 use Rattle.table.specs.declared.Head.{Head}
 use Rattle.table.specs.Table.{Record, head_bytes, table_bytes}
 use Rattle.table.specs.Placed.{placed}
@@ -47,24 +42,25 @@ use Rattle.table.proofs.Written.{written}
 use Rattle.walk.specs.declared.Counted.{Counted}
 use Rattle.walk.specs.declared.TieRule.{TieRule}
 use Rattle.walk.specs.Walk
-use Rattle.walk.specs.Walk.{cut_by, cut_of, spans, depths, entry_refusal}
+use Rattle.walk.specs.declared.entered.Entered.{Entered}
+use Rattle.walk.specs.Entered.{Enters}
+use Rattle.walk.specs.Walk.{cut_of, spans, depths, entry_refusal}
 use Rattle.walk.specs.InUse.{room_refusal, room_table, walk_number, walk_table}
 use Rattle.walk.specs.FunctionsInUse.{settled, cells_of, records_of}
 use Rattle.walk.specs.Counted.{head_with}
 use Rattle.walk.proofs.RecordLaws.{records_leaves}
-use Rattle.walk.proofs.TieLaws.{cut_of_lem}
 use Rattle.walk.proofs.CountedLaws.{counted_cells, counted_head}
 use Rattle.walk.proofs.FilledLaws.{HasRoom}
 
 -- ---- what the refusals before 13 leave
-pub record Entered (n : ℕ) (lo hi : List ℤ) (D : ℤ) : Type 0 where
+pub record Passes (n : ℕ) (lo hi : List ℤ) (D : ℤ) : Type 0 where
   pub described : n ≡ 0
   pub box : InTicks (box_from lo hi)
   pub good : Good (box_from lo hi)
   pub depth_sign : T (non_neg D)
   pub depth_most : nat_abs D ≤ 24
 
-pub entered : (n : ℕ) (lo hi : List ℤ) (D : ℤ) → entry_refusal n lo hi D ≡ 0 → Entered n lo hi D
+pub entered : (n : ℕ) (lo hi : List ℤ) (D : ℤ) → entry_refusal n lo hi D ≡ 0 → Passes n lo hi D
 unfolding entry_refusal
 entered n lo hi D e =
     let (a, e1) = none_first (not (ticks lo && ticks hi)) 0 (n or_else refused (not (spans lo hi)) 11 or_else refused (not (depths D)) 12) e in
@@ -126,28 +122,51 @@ module _ (g : Gyroid) (axis : Box → Axis) (D : ℕ) (b : Box) (t : List ℕ) w
       (rw e, rw e (w ∙ ap (λ (x : Head). table_bytes (length t) x ms) (eh ∙ counted_head g axis D b room.counted)))
 
 -- ---- what the call returns and leaves, by the refusals before 13
-module _ (d : Description) (lo hi : List ℤ) (D : ℤ) (rule : TieRule) (t : List ℕ) {n : ℕ} (number : n ≡ entry_refusal (refusal d) lo hi D) where
-  pub walk_refused : (n ≡ 0 → ⊥) → (n ≡ walk_number d lo hi D rule (length t)) × (t ≡ walk_table d lo hi D rule t)
+module _ (d : Description) (lo hi : List ℤ) (D : ℤ) (rule : TieRule) (t : List ℕ) where
+  -- where one of them, x, refuses
+  pub walk_refused : (r : Result (Unit {0}) Refusal) (x : Refusal) → IsErr r × IsErrAnd r (λ e. e ≡ x) → number x ≡ entry_refusal (refusal d) lo hi D
+      → (number_of r ≡ walk_number d lo hi D rule (length t)) × (t ≡ walk_table d lo hi D rule t)
   unfolding Walk.walk_number Walk.walk_table
-  walk_refused h =
-      let e = ap (λ (k : ℕ). eqb k 0) (sym number) ∙ ne_eqb n 0 h in
-      (rw e number, rw e)
+  walk_refused r x h e = (stopped r x _ h e, refused_said (λ _. t) (λ _. t) r x _ (λ _. refl) h e)
 
-  pub walk_ran : n ≡ 0 → {r : ℕ} {u : List ℕ} → r ≡ room_refusal (leaf d) (cut_of rule d) (nat_abs D) (box_from lo hi) (length t)
-      → u ≡ room_table (leaf d) (cut_of rule d) (nat_abs D) (box_from lo hi) (length t)
-      → (r ≡ walk_number d lo hi D rule (length t)) × (u ≡ walk_table d lo hi D rule t)
-  unfolding Walk.walk_number Walk.walk_table
-  walk_ran h p q =
-      let e = ap (λ (k : ℕ). eqb k 0) (sym number) ∙ eq-eqb n 0 h in
-      (rw e p, rw e q)
+  -- then one does
+  pub refused_one : (r : Result (Unit {0}) Refusal) (x : Refusal) → IsErr r × IsErrAnd r (λ e. e ≡ x) → number x ≡ entry_refusal (refusal d) lo hi D
+      → entry_refusal (refusal d) lo hi D ≡ 0 → ⊥
+  refused_one r x h e none = one (refused_said (λ _. 1) (λ _. 1) r x 0 (λ _. refl) h e ∙ ap (λ (n : ℕ). cond (eqb n 0) 0 1) none)
+    where
+      one : ◌≡◌ {A = ℕ} 1 0 → ⊥
+      one z = omega arith
 
--- ---- as the code has them: a compiled description m, a depth D as the machine's, a box b that was made from its ends
-module _ (d : Description) (lo hi : List ℤ) {D : ℤ} {m : Compiled} (f : SFits w64 D) (made : m ≡ certified d) where
-  -- the number of the refusals before 13
-  pub entry_number : {n : ℕ} → n ≡ entry_refusal m.refusal lo hi (to_z w64 (of_z w64 D)) → n ≡ entry_refusal (refusal d) lo hi D
-  entry_number e = heard (entry_refusal m.refusal lo hi) {x = D} f e ∙ ap (λ (k : ℕ). entry_refusal k lo hi D) (number_is d made)
+  -- where none does, and the call is held as e
+  module _ (e : Entered) (enters : Enters d lo hi D rule e) (none : 0 ≡ entry_refusal (refusal d) lo hi D) where
+    pub ran_number : {n : ℕ} → n ≡ room_refusal e.leaf (cut e.ties) e.depth (box_of e.b) (length t)
+        → n ≡ room_refusal (leaf d) (cut_of rule d) (nat_abs D) (box_from lo hi) (length t)
+    ran_number h = h ∙ (λ i. room_refusal (enters.leaf_is i) (enters.axis_is i) (enters.depth_is i) (enters.box_is i) (length t))
 
-  module _ (t : Entered (refusal d) lo hi D) where
+    pub ran_table : {u : List ℕ} → u ≡ room_table e.leaf (cut e.ties) e.depth (box_of e.b) (length t)
+        → u ≡ room_table (leaf d) (cut_of rule d) (nat_abs D) (box_from lo hi) (length t)
+    ran_table h = h ∙ (λ i. room_table (enters.leaf_is i) (enters.axis_is i) (enters.depth_is i) (enters.box_is i) (length t))
+
+    pub walk_ran : {n : ℕ} {u : List ℕ} → n ≡ room_refusal e.leaf (cut e.ties) e.depth (box_of e.b) (length t)
+        → u ≡ room_table e.leaf (cut e.ties) e.depth (box_of e.b) (length t)
+        → (n ≡ walk_number d lo hi D rule (length t)) × (u ≡ walk_table d lo hi D rule t)
+    unfolding Walk.walk_number Walk.walk_table
+    walk_ran p q = (ran_number p ∙ sym (passed_on none), rw (eq-eqb _ 0 (sym none)) (ran_table q))
+
+-- ---- as the code has them: a depth D as the machine's
+module _ (d : Description) (lo hi : List ℤ) {D : ℤ} (f : SFits w64 D) where
+  -- the number of the refusals before 13, and what is held of the call
+  pub entry_number : {n : ℕ} → n ≡ entry_refusal (refusal d) lo hi (to_z w64 (of_z w64 D)) → n ≡ entry_refusal (refusal d) lo hi D
+  entry_number e = heard (entry_refusal (refusal d) lo hi) {x = D} f e
+
+  pub entered_by : (rule : TieRule) (e : Entered) → Enters d lo hi (to_z w64 (of_z w64 D)) rule e → Enters d lo hi D rule e
+  entered_by rule e h = subst (λ (z : ℤ). Enters d lo hi z rule e) (back {x = D} f) h
+
+  -- none of them refuses
+  pub passed : 0 ≡ entry_refusal (refusal d) lo hi (to_z w64 (of_z w64 D)) → Passes (refusal d) lo hi D
+  passed e = entered (refusal d) lo hi D (sym (entry_number e))
+
+  module _ (t : Passes (refusal d) lo hi D) where
     -- the depth is one of the machine's numbers without a sign, and at most 24
     pub depth_cast : T (non_neg (to_z w64 (of_z w64 D))) × Fits w64 (nat_abs (to_z w64 (of_z w64 D)))
     depth_cast =
@@ -155,21 +174,3 @@ module _ (d : Description) (lo hi : List ℤ) {D : ℤ} {m : Compiled} (f : SFit
 
     pub depth_small : nat_abs (to_z w64 (of_z w64 D)) ≤ 24
     depth_small = subst⁻¹ (λ (z : ℤ). nat_abs z ≤ 24) (back {x = D} f) t.depth_most
-
-    -- the leaf may be lent
-    pub made_lendable : Lendable m.leaf
-    made_lendable = subst⁻¹ Lendable (leaf_is d made t.described) (leaf_lendable d)
-
-    -- what the walk behind the refusals says, which halves by the rule and the axis a of the level
-    module _ (rule : TieRule) {axis : Box → Axis} {a : AnchorAxis} (by-rule : axis ≡ cut_by rule a) (level : a ≡ def_axis m.leaf.grade)
-        {b : Box} (box : b ≡ box_from lo hi) (len : ℕ) where
-      axis_is : axis ≡ cut_of rule d
-      axis_is = cut_of_lem rule d by-rule level (grade_is d made t.described)
-
-      pub ran_number : {r : ℕ} → r ≡ room_refusal m.leaf axis (nat_abs (to_z w64 (of_z w64 D))) b len
-          → r ≡ room_refusal (leaf d) (cut_of rule d) (nat_abs D) (box_from lo hi) len
-      ran_number e = e ∙ (λ i. room_refusal (leaf_is d made t.described i) (axis_is i) (nat_abs (back {x = D} f i)) (box i) len)
-
-      pub ran_table : {u : List ℕ} → u ≡ room_table m.leaf axis (nat_abs (to_z w64 (of_z w64 D))) b len
-          → u ≡ room_table (leaf d) (cut_of rule d) (nat_abs D) (box_from lo hi) len
-      ran_table e = e ∙ (λ i. room_table (leaf_is d made t.described i) (axis_is i) (nat_abs (back {x = D} f i)) (box i) len)

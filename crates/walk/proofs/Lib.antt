@@ -9,6 +9,7 @@ pub mod TieLaws
 pub mod CountedLaws
 pub mod FilledLaws
 pub mod CallLaws
+pub mod RootLaws
 pub mod SameLaws
 pub mod EndLaws
 pub mod DemandLaws

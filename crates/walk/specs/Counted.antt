@@ -1,5 +1,5 @@
 -- What is counted of a tree, and what the writer answers. The walk's definitions do not see it. Definitions only; assumes nothing.
-use Rattle.std.specs.Prelude.{◌≡◌, Bool, cond, List, ℕ, ◌+◌, ◌-◌, ◌/◌, ◌≤◌, length, leb}
+use Rattle.std.specs.Prelude.{◌≡◌, Bool, cond, List, ℕ, ◌+◌, ◌-◌, ◌/◌, ◌≤◌, length, leb, Option, Some, None}
 use Rattle.gyroid.specs.declared.Gyroid.{Gyroid}
 use Rattle.gyroid.specs.declared.State.{State}
 use Rattle.tree.specs.declared.Axis.{Axis}
@@ -8,8 +8,6 @@ use Rattle.tree.specs.Tree.{leaves, cells}
 use Rattle.table.specs.declared.Head.{Head}
 use Rattle.table.specs.Placed.{placed}
 use Rattle.walk.specs.declared.Counted.{Counted}
-use Rattle.walk.specs.declared.Filled.{Filled}
-use Rattle.walk.specs.declared.Filled.TheVariants.{Done, Full}
 use Rattle.walk.specs.Walk.{is_inside}
 use Rattle.walk.specs.FunctionsInUse.{settled, evaluated_of, solid_of, records_of}
 
@@ -35,9 +33,9 @@ pub record Adds (l h : Counted) : Type 0 where
   pub evaluated : 1 + l.evaluated + h.evaluated ≤ 33554431
   pub solid : l.solid + h.solid ≤ 9223372036854775808
 
--- the writer's answer: the cells but the first go to the slots from `fresh` on, of a table of `slots` slots
-unfoldable pub filled_of : Gyroid → (Box → Axis) → ℕ → Box → ℕ → ℕ → Filled
-filled_of g axis d b fresh slots = cond (leb (fresh + leaves (settled g) axis d b) (slots + 1)) (Done (counted_of g axis d b)) Full
+-- the writer's answer, none where a cell has no slot: the cells but the first go to the slots from `fresh` on, of a table of `slots` slots
+unfoldable pub filled_of : Gyroid → (Box → Axis) → ℕ → Box → ℕ → ℕ → Option Counted
+filled_of g axis d b fresh slots = cond (leb (fresh + leaves (settled g) axis d b) (slots + 1)) (Some (counted_of g axis d b)) None
 
 -- what the writer leaves of the bytes t where they hold all cells: those of the box, whose depth is `limit` less d, the first in `slot`, the others
 -- from `fresh` on, the last naming `after` if it is the last of all

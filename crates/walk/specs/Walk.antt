@@ -1,12 +1,11 @@
 -- THE WALK: document 01's "The walk (added)" and the walk's row of its table of refusals, their words in quotes, and document 02's tie rule (L6):
 -- what the call returns and what it leaves in the table, for any input, under either rule and either arithmetic. Definitions only; assumes nothing.
 use Rattle.std.specs.Prelude.{Bool, true, false, cond, not, ◌&&◌, List, [], ◌∷◌, ℕ, ◌+◌, ◌-◌, ◌/◌, eqb, ltb, ℤ, pos, nat_abs, length, replicate}
+use Rattle.std.specs.Prelude.{Option, Some, None}
 use Rattle.std.specs.Int.Signed.{le_z, lt_z}
 use Rattle.interval.specs.Interval.{Arithmetic}
 use Rattle.limits.specs.Ticks.{at, ticks}
 use Rattle.limits.specs.Refusals.{refused, ◌or_else◌}
-use Rattle.grade.specs.declared.AnchorAxis.{AnchorAxis}
-use Rattle.grade.specs.declared.AnchorAxis.TheVariants.{One}
 use Rattle.grade.specs.Exact.{compiled}
 use Rattle.grade.specs.Certified.{def_axis}
 use Rattle.gyroid.specs.declared.Description.{Description}
@@ -32,9 +31,9 @@ use Rattle.walk.specs.declared.TieRule.TheVariants.{GradeAxis, LowestAxis}
 abbrev pub axis_at : ℕ → Axis
 axis_at i = cond (eqb i 0) X (cond (eqb i 1) Y Z)
 
-abbrev pub cut_by : TieRule → AnchorAxis → Box → Axis
-cut_by GradeAxis (One i) = cut (axis_at i)
-cut_by GradeAxis AnchorAxis.None = longest
+abbrev pub cut_by : TieRule → Option ℕ → Box → Axis
+cut_by GradeAxis (Some i) = cut (axis_at i)
+cut_by GradeAxis None = longest
 cut_by LowestAxis a = longest
 
 -- a level of kind 1 with unequal ends, compiled, has an axis, and no other level has

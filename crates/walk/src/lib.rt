@@ -7,7 +7,8 @@ mod visit; // a box of the tree: what is done at it, and its halves
 mod tally; // what a cell counts, and two halves
 pub mod count; // a whole tree, counted
 pub mod fill; // its cells, written
-mod run; // the walk of a leaf
+pub mod entered; // a call that passes the refusals before 13
+mod run; // its walk
 pub mod calls; // the public call
 
 use gyroid::State;
@@ -15,37 +16,30 @@ use memory::Places;
 use tree::{Axis, ShiftedBox};
 
 // Where spans tie: to the axis of a graded level, which is the default, or to the lowest axis.
-#[derive(Clone, Copy)]
+#[derive(Clone, Copy, Debug, PartialEq, Eq)]
 pub enum TieRule {
     GradeAxis,
     LowestAxis,
 }
 
 // A box of the tree, and where its sides are looked up.
-#[derive(Clone, Copy)]
+#[derive(Clone, Copy, Debug, PartialEq, Eq)]
 pub struct Node {
     pub b: ShiftedBox,
     pub p: Places,
 }
 
 // A box is a cell, with its state, or it is halved.
-#[derive(Clone, Copy)]
+#[derive(Clone, Copy, Debug, PartialEq, Eq)]
 pub enum Step {
     Cell(State),
     Halves(Axis),
 }
 
 // The cells of a tree, its boxes, and the tick cubes of its inside cells.
-#[derive(Clone, Copy)]
+#[derive(Clone, Copy, Debug, PartialEq, Eq)]
 pub struct Counted {
     pub cells: usize,
     pub evaluated: usize,
     pub solid: usize,
-}
-
-// The cells of a tree are written, or the table has no slot for one of them.
-#[derive(Clone, Copy)]
-pub enum Filled {
-    Done(Counted),
-    Full,
 }

@@ -1,38 +1,36 @@
-// The walk of a compiled leaf over an accepted box. It makes a memory, lends it to the writer, and keeps nothing.
-ghost use Rattle.std.specs.Prelude.{◌≡◌, ◌≤◌, length};
-ghost use Rattle.gyroid.specs.Numbers.{Lendable};
-ghost use Rattle.tree.specs.Box.{Good, box_of, cut};
+// The walk of a call that passes the refusals before 13. It makes a memory, lends it to the writer, and keeps nothing.
+ghost use Rattle.std.specs.Prelude.{◌≡◌, length};
+ghost use Rattle.limits.specs.Refusals.{number_of};
+ghost use Rattle.tree.specs.Box.{box_of, cut};
 ghost use Rattle.walk.specs.InUse.{room_refusal, room_table};
 
-use crate::fill::fill;
-use crate::{Filled, Node};
-use gyroid::Gyroid;
-use gyroid::lent::numbers_of;
-use memory::Places;
+use crate::Node;
+use crate::entered::Entered;
+use crate::fill::{Writing, fill};
+use limits::refusals::Refusal;
+use memory::Memory;
 use table::put::{put_head, zero};
-use tree::{Axis, ShiftedBox};
 
-// 0, or 13 where the cells outgrow the table.
-pub fn run(g: Gyroid, b: ShiftedBox, depth: usize, ties: Axis, table: &mut [u8]) -> u32
-    requires lendable { Lendable g }
-    requires good { Good (box_of b) }
-    requires depth_bound { depth ≤ 24 }
-    ensures answer { result ≡ room_refusal g (cut ties) depth (box_of b) (length table.old) }
-    ensures left { table.new ≡ room_table g (cut ties) depth (box_of b) (length table.old) }
-{
-    let leaf = numbers_of(g);
-    let mut keys = [0usize; 480];
-    let mut parts = [0.0f64; 1984];
-    let p = Places::root();
-    let root = Node { b, p };
-    let answer = fill(
-        &leaf, &mut keys, &mut parts, root, depth, table, 1, 2, true, 0, depth, ties,
-    );
-    let Filled::Done(n) = answer else {
-        zero(table, 0);
-        return 13;
-    };
-    zero(table, 32 * (n.cells + 1));
-    put_head(table, n.head(b));
-    0
+impl Entered {
+    // Refused where the cells outgrow the table.
+    pub fn run(&self, table: &mut [u8]) -> Result<(), Refusal>
+        ensures answer { number_of result ≡ room_refusal self.now.leaf (cut self.now.ties) self.now.depth (box_of self.now.b) (length table.old) }
+        ensures left { table.new ≡ room_table self.now.leaf (cut self.now.ties) self.now.depth (box_of self.now.b) (length table.old) }
+    {
+        let mut memory = Memory::new(self.leaf);
+        let answer = fill(
+            &mut memory,
+            Node::root(self.b),
+            self.depth,
+            table,
+            Writing::root(self.depth, self.ties),
+        );
+        let Some(n) = answer else {
+            zero(table, 0);
+            return Err(Refusal::Room);
+        };
+        zero(table, 32 * (n.cells + 1));
+        put_head(table, n.head(self.b));
+        Ok(())
+    }
 }

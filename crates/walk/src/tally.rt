@@ -21,7 +21,7 @@ impl Counted {
         }
     }
 
-    // With the upper half's, and the box itself.
+    // With the upper half's, and the box itself: no `+`, which would not say that the box counts too.
     pub fn joined(self, h: Counted) -> Counted
         requires { Adds self h }
         ensures { result ≡ joined_of self h }

@@ -1,40 +1,44 @@
 // The axis that ties go to, by the rule that a caller names and the axis of a level. Ties to x are ties to the lowest axis.
 ghost use Rattle.std.specs.Prelude.{◌≡◌};
 ghost use Rattle.tree.specs.Box.{cut};
-ghost use Rattle.walk.specs.declared.TieRule.TheVariants.{GradeAxis};
 ghost use Rattle.walk.specs.Walk.{axis_at, cut_by};
+ghost use Rattle.walk.specs.Rules.{rule_of};
 
 use crate::TieRule;
-use grade::AnchorAxis;
+use limits::refusals::Refusal;
 use tree::Axis;
+
+impl TryFrom<u32> for TieRule {
+    type Error = Refusal;
+
+    ghost try_from_gives = { λ n r. r ≡ rule_of n };
+
+    fn try_from(number: u32) -> Result<TieRule, Refusal> {
+        match number {
+            0 => Ok(TieRule::GradeAxis),
+            1 => Ok(TieRule::LowestAxis),
+            _ => Err(Refusal::Limits),
+        }
+    }
+}
 
 fn axis_at(i: usize) -> Axis
     ensures { result ≡ axis_at i }
 {
-    if i == 0 {
-        return Axis::X;
-    }
-    if i == 1 {
-        return Axis::Y;
-    }
-    Axis::Z
-}
-
-// By the default.
-fn ties_along(axis: AnchorAxis) -> Axis
-    ensures { cut result ≡ cut_by GradeAxis axis }
-{
-    match axis {
-        AnchorAxis::One(i) => axis_at(i),
-        AnchorAxis::None => Axis::X,
+    match i {
+        0 => Axis::X,
+        1 => Axis::Y,
+        _ => Axis::Z,
     }
 }
 
-pub fn ties_by(rule: TieRule, axis: AnchorAxis) -> Axis
+#[tactic(auto, using(tree::proofs::CutLaws::to_x))]
+pub fn ties_by(rule: TieRule, axis: Option<usize>) -> Axis
     ensures { cut result ≡ cut_by rule axis }
 {
-    match rule {
-        TieRule::GradeAxis => ties_along(axis),
-        TieRule::LowestAxis => Axis::X,
+    match (rule, axis) {
+        (TieRule::GradeAxis, Some(i)) => axis_at(i),
+        (TieRule::GradeAxis, None) => Axis::X,
+        (TieRule::LowestAxis, _) => Axis::X,
     }
 }

@@ -1,34 +1,20 @@
--- By the refusals; a leaf behind a refusal of 0 is the description's. Assumes nothing.
-use mathlib.Core.Path.{sym, ◌∙◌}
+-- A constant level is read back from its bits. Assumes nothing.
+use mathlib.Core.Path.{sym, ap, ◌∙◌}
 use mir.Syntax.{w64}
 use mir.Val.{SFits}
 use borrow.Author.Rules.{rules}
 use Rattle.exact.proofs.Signed.{back}
-use Rattle.grade.specs.Said.{found, refusing}
-use Rattle.limits.proofs.RefusalLaws.{refused_is, answer_is}
-use Rattle.gyroid.proofs.LeafLaws.{number_is, surface_is, grade_is}
-use Rattle.calls.specs.Calls.{saturated_by, saturated_call}
+use Rattle.calls.specs.Calls.{any, one, saturated_at, saturated_by, saturated_call}
+use Rattle.calls.proofs.CallLaws.{found_is, leaf_surface, leaf_level}
 use Rattle.calls.proofs.calls.saturated.Goals as goal
 
-pub returns-then-made-ne0 : goal.returns-then-made-ne0
+pub returns-in-Constant : goal.returns-in-Constant
 unfolding saturated_call
-returns-then-made-ne0 c =
+returns-in-Constant c =
     let d = c.args.description in
-    let n = number_is d c.certified-made.ensures in
-    refused_is (λ k. refusing k) _ n c.if-made-ne0.true
-
-pub returns : goal.returns
-unfolding saturated_call
-returns c =
-    let d = c.args.description in
-    let n = number_is d c.certified-made.ensures in
-    let z = sym n ∙ c.if-made-ne0.false in
-    let f = surface_is d c.certified-made.ensures z in
-    let g = grade_is d c.certified-made.ensures z in
-    let l = c.certified-made.result.leaf in
-    let fits : SFits w64 l.grade.linear.start = search rules in
-    let start = back fits in
-    answer_is _ n c.if-made-ne0.false
-    (c.saturated_by.ensures
-    ∙ (λ k. found (saturated_by l.surface l.grade.kind (start k)))
-    ∙ (λ k. found (saturated_by (f k) (g k).kind (g k).linear.start)))
+    let l = c.in_ok-leaf.ensures.leaf in
+    let fits : SFits w64 c.in-Constant.level = search rules in
+    let surface = ap (λ g. g.surface) l ∙ leaf_surface d in
+    let grade = sym c.in-Constant.is ∙ leaf_level d l in
+    found_is c.in_ok-leaf.ensures.number
+    (ap (any one) (c.saturated_at.ensures ∙ (λ k. saturated_at c.in_ok-leaf.leaf.surface (back fits k)) ∙ (λ k. saturated_by (surface k) (grade k))))

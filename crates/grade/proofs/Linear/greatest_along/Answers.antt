@@ -6,6 +6,6 @@ use Rattle.grade.proofs.Linear.greatest_along.Goals as goal
 
 pub returns : goal.returns
 returns c =
-    let g = c.args.self in
+    let g = c.args.self.now in
     let p = c.requires in
     (bit tt (got (c.least_along.ensures ∙ exchanged g c.args.lo c.args.hi) (greatest_along_within g p.0 p.1.0 p.1.1))).same

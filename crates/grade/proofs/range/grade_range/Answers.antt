@@ -1,39 +1,38 @@
 -- The refusals say what the calls behind them ask. Assumes nothing.
-use mathlib.Core.Path.{sym, ap, ◌∙◌, subst⁻¹}
+use mathlib.Core.Path.{refl, sym, ap, ◌∙◌, subst⁻¹}
 use Rattle.grade.specs.Holds.{RangeHolds}
 use Rattle.grade.specs.Exact.{range}
 use Rattle.grade.specs.Said.{found, refusing}
-use Rattle.grade.specs.Calls.{three, range_call}
+use Rattle.grade.specs.Calls.{three, range_said, range_call}
 use Rattle.grade.specs.Fits.{DefFits}
 use Rattle.grade.proofs.RangeLaws.{range_holds}
-use Rattle.limits.proofs.RefusalLaws.{refused_is, answer_is}
+use Rattle.limits.proofs.RefusalLaws.{refused_said, answer_is}
 use Rattle.grade.proofs.Accepted.{accepted, compiled_fits}
 use Rattle.grade.proofs.range.grade_range.Goals as goal
 
-pub returns-then-number-ne0 : goal.returns-then-number-ne0
+pub returns-in_err-range_refusal-clause-answer : goal.returns-in_err-range_refusal-clause-answer
 unfolding range_call
-returns-then-number-ne0 c = record {
-  answer = refused_is (λ k. refusing k) _ c.range_refusal-number.ensures c.if-number-ne0.true;
-  holds = tt;
-}
+returns-in_err-range_refusal-clause-answer c =
+    refused_said range_said (λ n. refusing n) _ _ _ (λ y. refl) c.from_residual.ensures c.in_err-range_refusal.ensures
 
-pub compile-compiled-requires : goal.compile-compiled-requires
-compile-compiled-requires c = (accepted _ _ _ (sym c.range_refusal-number.ensures ∙ c.if-number-ne0.false)).limits
+pub compile-requires : goal.compile-requires
+compile-requires c = (accepted c.args.grade c.args.lo c.args.hi (sym c.in_ok-range_refusal.ensures)).limits
 
 pub range-requires : goal.range-requires
 range-requires c =
-    let a = accepted c.args.grade c.args.lo c.args.hi (sym c.range_refusal-number.ensures ∙ c.if-number-ne0.false) in
-    (subst⁻¹ DefFits c.compile-compiled.ensures (compiled_fits c.args.grade a.limits a.apart), (a.low, a.high))
+    let a = accepted c.args.grade c.args.lo c.args.hi (sym c.in_ok-range_refusal.ensures) in
+    (subst⁻¹ DefFits c.compile.ensures (compiled_fits c.args.grade a.limits a.apart), (a.low, a.high))
 
-pub returns : goal.returns
+pub returns-clause-answer : goal.returns-clause-answer
 unfolding range_call
-returns c =
+returns-clause-answer c =
+    let b = c.range.ensures ∙ ap (λ d. range d c.args.lo c.args.hi) c.compile.ensures in
+    answer_is _ c.in_ok-range_refusal.ensures refl (ap (λ r. found (three r)) b)
+
+pub returns-clause-holds : goal.returns-clause-holds
+returns-clause-holds c =
     let g = c.args.grade in
     let lo = c.args.lo in
     let hi = c.args.hi in
-    let e = sym c.range_refusal-number.ensures ∙ c.if-number-ne0.false in
-    let b = c.range.ensures ∙ ap (λ d. range d lo hi) c.compile-compiled.ensures in
-    record {
-      answer = answer_is _ c.range_refusal-number.ensures c.if-number-ne0.false (ap (λ r. found (three r)) b);
-      holds = subst⁻¹ (RangeHolds g lo hi) b (range_holds g lo hi (accepted g lo hi e).apart);
-    }
+    let b = c.range.ensures ∙ ap (λ d. range d lo hi) c.compile.ensures in
+    subst⁻¹ (RangeHolds g lo hi) b (range_holds g lo hi (accepted g lo hi (sym c.in_ok-range_refusal.ensures)).apart)

@@ -108,10 +108,7 @@ pub from_rational-turns-requires : goal.from_rational-turns-requires
 from_rational-turns-requires c = by_period c.args.description c.requires.none tt
 
 pub from_rational-requires : goal.from_rational-requires
-from_rational-requires c = by_1024 c.args.description c.requires.none c.constant_level-constant.result cc
-
-pub from_rational-requires-2 : goal.from_rational-requires-2
-from_rational-requires-2 c =
+from_rational-requires c =
     let w = (period c.args.description c.requires.none).same in
     by_bottom c.args.description c.requires.none c.lipschitz_top-top.result c.lipschitz_bottom-bottom.result (cc w) (cc w)
 

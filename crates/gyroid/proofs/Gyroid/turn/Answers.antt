@@ -44,7 +44,7 @@ returns c =
     rw (
       c.turned.ensures,
       c.modulo_four.ensures,
-      c.circle-c.ensures,
+      c.circle.ensures,
       ← c.reducible.ensures,
       c.if-not-reducible.false,
       ← q,

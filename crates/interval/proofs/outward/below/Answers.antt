@@ -1,34 +1,37 @@
--- Both patterns have the sign set: the low one rises and the high one falls, or stays where the end is exact. Assumes nothing.
-use Rattle.std.proofs.Common.{◌+◌, ◌-◌, ◌<◌, ◌≤◌, cond, arith}
-use Rattle.interval.specs.Step.{next_up, next_down}
+-- Both patterns have the sign set: the low one rises and the high one falls, and is put back where the end is exact. Assumes nothing.
+use Rattle.std.proofs.Common.{◌≡◌, ℕ, ◌+◌, ◌-◌, ◌<◌, ◌≤◌, cond, true, arith, rules}
+use lib.Ieee.{fits, binary64, lt, le}
+use Rattle.std.specs.Int.{from_bool}
+use Rattle.interval.specs.declared.outward.End.{End}
+use Rattle.interval.specs.Step.{b64, next_up, next_down}
+use Rattle.interval.proofs.SignTests.{lowest}
 use Rattle.interval.proofs.StepCode.{Moved, bits_of, down_below, up_below, falls, rises, both_ends}
 use Rattle.interval.proofs.outward.below.Goals as goal
 
-low : (c : goal.After-moves-up)
-    → Moved c.args.low (cond c.args.exact_low c.args.low (next_down c.args.low)) (bits_of c.args.low + c.moves-down.result)
-    (bits_of c.args.low + c.moves-down.result < 0x1_0000_0000_0000_0000)
-low c =
-    rises c.args.low c.well_formed.0.1 c.args.exact_low _ c.moves-down.ensures
-    (down_below c.args.low c.well_formed.0.1 c.requires.0 c.requires.2)
+low : (e : End) {n : ℕ} → fits binary64 e.value ≡ true → n ≡ from_bool e.exact → lt e.value (b64 0) ≡ true → le lowest e.value ≡ true
+    → Moved e.value (cond e.exact e.value (next_down e.value)) (bits_of e.value + 1 - n) (bits_of e.value + 1 < 0x1_0000_0000_0000_0000)
+low e f p h k = rises e.value f e.exact _ p (down_below e.value f h k)
 
-high : (c : goal.After-moves-up)
-    → Moved c.args.high (cond c.args.exact_high c.args.high (next_up c.args.high)) (bits_of c.args.high - c.moves-up.result)
-    (c.moves-up.result ≤ bits_of c.args.high)
-high c =
-    falls c.args.high c.well_formed.1.1.0.1 c.args.exact_high _ c.moves-up.ensures
-    (up_below c.args.high c.well_formed.1.1.0.1 c.requires.1)
+high : (e : End) {n : ℕ} → fits binary64 e.value ≡ true → n ≡ from_bool e.exact → lt e.value (b64 0) ≡ true
+    → Moved e.value (cond e.exact e.value (next_up e.value)) (bits_of e.value - 1 + n)
+    ((1 ≤ bits_of e.value) × (bits_of e.value - 1 + n < 0x1_0000_0000_0000_0000))
+high e f p h = falls e.value f e.exact _ p (up_below e.value f h)
 
 pub overflow_add-result : goal.overflow_add-result
-overflow_add-result c = omega (arith, (low c).fits)
+overflow_add-result c = omega (arith, (down_below c.args.low.value (search rules) c.requires.0 c.requires.2).fits)
 
 pub float_from_bits-result : goal.float_from_bits-result
-float_from_bits-result c = (low c).good
+float_from_bits-result c = (low c.args.low (search rules) c.from.ensures c.requires.0 c.requires.2).good
 
-pub overflow_sub-result : goal.overflow_sub-result
-overflow_sub-result c = (high c).fits
+pub overflow_sub-result-2 : goal.overflow_sub-result-2
+overflow_sub-result-2 c = (up_below c.args.high.value (search rules) c.requires.1).fits
+
+pub overflow_add-result-2 : goal.overflow_add-result-2
+overflow_add-result-2 c = omega (arith, (high c.args.high (search rules) c.from-2.ensures c.requires.1).fits.1)
 
 pub float_from_bits-result-2 : goal.float_from_bits-result-2
-float_from_bits-result-2 c = (high c).good
+float_from_bits-result-2 c = (high c.args.high (search rules) c.from-2.ensures c.requires.1).good
 
 pub returns : goal.returns
-returns c = both_ends c.args.low c.args.high _ _ (low c) (high c)
+returns c = both_ends _ _ _ _ (low c.args.low (search rules) c.from.ensures c.requires.0 c.requires.2)
+    (high c.args.high (search rules) c.from-2.ensures c.requires.1)

@@ -1,11 +1,8 @@
 -- One layer more at each turn. Assumes nothing.
-use mathlib.Core.Path.{refl, ◌∙◌}
+use mathlib.Core.Path.{◌∙◌}
 use native.Mathlib.Omega.{arith}
 use Rattle.layers.proofs.ColumnLaws.{none_left, sum_fits, one_layer, length_stored}
 use Rattle.layers.proofs.report.add.Goals as goal
-
-pub loop-k-init : goal.loop-k-init
-loop-k-init c = record { rest = record { same = refl; fits = c.requires.fitting }; long = refl }
 
 pub overflow_add-x : goal.overflow_add-x
 overflow_add-x c = omega (arith, c.u64_at-x.ensures, sum_fits _ _ _ c.loop-k-test.true c.loop-k.invariant.rest)
@@ -17,4 +14,4 @@ loop-k-preserved c = record {
 }
 
 pub returns : goal.returns
-returns c = none_left _ _ _ (omega arith) c.loop-k.invariant.rest
+returns c = none_left _ _ _ c.loop-k-test.false c.loop-k.invariant.rest

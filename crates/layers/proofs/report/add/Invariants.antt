@@ -11,6 +11,3 @@ invariant-loop-k l = record {
   rest : Left l.end l.column l.v l.k l.r (added_to (l.end - l.first) l.first l.column l.v l.fn.r);
   long : length l.r ≡ length l.fn.r;
 }
-
-abbrev pub decreases-loop-k : goal.decreases-loop-k
-decreases-loop-k l = l.end - l.k

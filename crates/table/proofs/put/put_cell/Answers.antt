@@ -7,5 +7,5 @@ use Rattle.table.proofs.put.put_cell.Goals as goal
 pub returns : goal.returns
 returns c =
     let a = c.args in
-    cell_stored a.t.now (32 * a.slot) a.next a.state a.depth a.b c.put_u32.ensures c.put_state_word.ensures
+    cell_stored a.t.now (32 * a.slot) a.cell.next a.cell.state a.cell.depth a.cell.b c.put_u32.ensures c.put_state_word.ensures
     c.put_corner.ensures c.put_corner-2.ensures (omega arith) (omega arith)

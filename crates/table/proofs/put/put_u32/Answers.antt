@@ -1,19 +1,10 @@
--- Four stores are a run. Assumes nothing.
-use native.Mathlib.Omega.{arith}
-use lib.ListN.{length-set}
-use Rattle.table.specs.Table.{word4}
-use Rattle.table.proofs.Stores.{four_stores}
+-- The four bytes are the word. Assumes nothing.
+use mathlib.Core.Path.{ap, ◌∙◌}
+use lib.Seq.{sets}
+use Rattle.table.proofs.Words.{word4_bytes}
 use Rattle.table.proofs.put.put_u32.Goals as goal
 
-pub bounds-t-at-2 : goal.bounds-t-at-2
-bounds-t-at-2 c = simp length-set (omega arith)
-
-pub bounds-t-at-3 : goal.bounds-t-at-3
-bounds-t-at-3 c = simp length-set (omega arith)
-
-pub bounds-t-at-4 : goal.bounds-t-at-4
-bounds-t-at-4 c = simp length-set (omega arith)
-
 pub returns : goal.returns
-unfolding word4
-returns c = four_stores c.args.t.now c.args.at _ _ _ _
+returns c =
+    let a = c.args in
+    c.put_bytes.ensures ∙ ap (sets a.t.now a.at) (word4_bytes a.x c.to_le_bytes.ensures)

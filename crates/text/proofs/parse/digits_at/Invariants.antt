@@ -1,11 +1,8 @@
 -- The digits still to come, after those passed, give what is asked, and the value has room for as many. Assumes nothing.
-use Rattle.std.proofs.Common.{◌≡◌}
+use Rattle.std.proofs.Common.{◌≡◌, ◌-◌}
 use Rattle.text.specs.Line.{digits_at}
 use Rattle.text.proofs.LineLaws.{Room}
 use Rattle.text.proofs.parse.digits_at.Given as goal
 
-abbrev pub invariant-loop-left : goal.invariant-loop-left
-invariant-loop-left l = (digits_at 7 0 l.t l.from ≡ digits_at l.left l.value l.t l.i) × Room l.left l.value
-
-abbrev pub decreases-loop-left : goal.decreases-loop-left
-decreases-loop-left l = l.left
+abbrev pub invariant-loop : goal.invariant-loop
+invariant-loop l = (digits_at 7 0 l.t l.from ≡ digits_at (7 - l.counter) l.value l.t l.next) × Room (7 - l.counter) l.value

@@ -1,10 +1,7 @@
 -- What is asked is the line with the numbers read so far, and as many others as are left. Assumes nothing.
-use Rattle.std.proofs.Common.{◌≡◌, ◌-◌, ◌≤◌, length, take}
+use Rattle.std.proofs.Common.{◌≡◌, ◌-◌, length, take}
 use Rattle.text.specs.Line.{line_from, line_of}
 use Rattle.text.proofs.parse.parse.Given as goal
 
 abbrev pub invariant-loop-k : goal.invariant-loop-k
-invariant-loop-k l = (l.k ≤ 17) × (length l.numbers ≡ 17) × (line_of l.input ≡ line_from (17 - l.k) (take l.k l.numbers) l.input l.at)
-
-abbrev pub decreases-loop-k : goal.decreases-loop-k
-decreases-loop-k l = 17 - l.k
+invariant-loop-k l = (length l.numbers ≡ 17) × (line_of l.input ≡ line_from (17 - l.k) (take l.k l.numbers) l.input l.at)

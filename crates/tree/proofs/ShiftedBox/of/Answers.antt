@@ -1,4 +1,4 @@
--- Each entry is read back from its bits, shifted, and kept. Assumes nothing.
+-- Each end is read back from its bits, shifted, and kept. Assumes nothing.
 use mathlib.Core.Path.{◌≡◌, ◌∙◌}
 use lib.IntN.{ℤ, pos}
 use lib.ListN.{get_or}
@@ -14,24 +14,23 @@ use Rattle.tree.proofs.ShiftedBox.of.Goals as goal
 plain : {n : ℤ} (x : ℤ) → n ≡ to_z w64 (of_z w64 x) → Within 1048576 x → n ≡ x
 plain x e h = e ∙ back (within_fits {n = 1048576} tt h)
 
-pub shift-lx-requires : goal.shift-lx-requires
-shift-lx-requires c = within_bits 1048576 tt tt (c.requires.lows X)
+pub of-requires-clause-low_bound : goal.of-requires-clause-low_bound
+of-requires-clause-low_bound c = within_bits 1048576 tt tt (c.requires.lows X)
 
-pub shift-ly-requires : goal.shift-ly-requires
-shift-ly-requires c = within_bits 1048576 tt tt (c.requires.lows Y)
+pub of-requires-clause-high_bound : goal.of-requires-clause-high_bound
+of-requires-clause-high_bound c = within_bits 1048576 tt tt (c.requires.highs X)
 
-pub shift-lz-requires : goal.shift-lz-requires
-shift-lz-requires c = within_bits 1048576 tt tt (c.requires.lows Z)
+pub of-requires-2-clause-low_bound : goal.of-requires-2-clause-low_bound
+of-requires-2-clause-low_bound c = within_bits 1048576 tt tt (c.requires.lows Y)
 
-pub shift-hx-requires : goal.shift-hx-requires
-shift-hx-requires c = within_bits 1048576 tt tt (c.requires.highs X)
+pub of-requires-2-clause-high_bound : goal.of-requires-2-clause-high_bound
+of-requires-2-clause-high_bound c = within_bits 1048576 tt tt (c.requires.highs Y)
 
-pub shift-hy-requires : goal.shift-hy-requires
-shift-hy-requires c = within_bits 1048576 tt tt (c.requires.highs Y)
+pub of-requires-3-clause-low_bound : goal.of-requires-3-clause-low_bound
+of-requires-3-clause-low_bound c = within_bits 1048576 tt tt (c.requires.lows Z)
 
-pub shift-hz-requires : goal.shift-hz-requires
-shift-hz-requires c =
-    within_bits 1048576 tt tt (c.requires.highs Z)
+pub of-requires-3-clause-high_bound : goal.of-requires-3-clause-high_bound
+of-requires-3-clause-high_bound c = within_bits 1048576 tt tt (c.requires.highs Z)
 
 pub returns : goal.returns
 unfolding box_of
@@ -40,10 +39,10 @@ returns c =
     let lo = c.args.lo in
     let hi = c.args.hi in
     λ k. record {
-      lx = plain (get_or lo 0 (pos 0)) c.shift-lx.ensures.0 (p.lows X) k;
-      ly = plain (get_or lo 1 (pos 0)) c.shift-ly.ensures.0 (p.lows Y) k;
-      lz = plain (get_or lo 2 (pos 0)) c.shift-lz.ensures.0 (p.lows Z) k;
-      hx = plain (get_or hi 0 (pos 0)) c.shift-hx.ensures.0 (p.highs X) k;
-      hy = plain (get_or hi 1 (pos 0)) c.shift-hy.ensures.0 (p.highs Y) k;
-      hz = plain (get_or hi 2 (pos 0)) c.shift-hz.ensures.0 (p.highs Z) k;
+      lx = plain (get_or lo 0 (pos 0)) c.of.ensures.low (p.lows X) k;
+      ly = plain (get_or lo 1 (pos 0)) c.of-2.ensures.low (p.lows Y) k;
+      lz = plain (get_or lo 2 (pos 0)) c.of-3.ensures.low (p.lows Z) k;
+      hx = plain (get_or hi 0 (pos 0)) c.of.ensures.high (p.highs X) k;
+      hy = plain (get_or hi 1 (pos 0)) c.of-2.ensures.high (p.highs Y) k;
+      hz = plain (get_or hi 2 (pos 0)) c.of-3.ensures.high (p.highs Z) k;
     }

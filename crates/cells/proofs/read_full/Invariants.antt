@@ -1,6 +1,0 @@
--- The place never passes the end. Assumes nothing.
-use Rattle.std.proofs.Common.{◌≤◌, length}
-use Rattle.cells.proofs.read_full.Given as goal
-
-abbrev pub invariant-loop : goal.invariant-loop
-invariant-loop g l = l.done ≤ length l.s

@@ -1,0 +1,2 @@
+-- Lemmas that the functions' proofs cite. Assumes nothing.
+pub mod Tries

@@ -1,0 +1,2 @@
+-- What the contracts cite. Definitions only; assumes nothing.
+pub mod Cases

@@ -1,5 +1,0 @@
--- The number itself falls. Assumes nothing.
-use Rattle.text.proofs.print.+put_decimal.Given as goal
-
-abbrev pub decreases-put_decimal : goal.decreases-put_decimal
-decreases-put_decimal l = l.n
