@@ -29,14 +29,14 @@ fn near(b: Interval) -> bool
 fn all_ordered(w: [Interval; 3]) -> bool
     ensures { result ≡ all_ordered w }
 {
-    w.into_iter().all(ordered)
+    w.iter().all(|b| ordered(*b))
 }
 
 #[tactic(auto, unfolding(crate::specs::Refusals::all_near))]
 fn all_near(w: [Interval; 3]) -> bool
     ensures { result ≡ all_near w }
 {
-    w.into_iter().all(near)
+    w.iter().all(|b| near(*b))
 }
 
 #[tactic(auto, unfolding(crate::specs::Refusals::box_refusal))]
@@ -60,8 +60,8 @@ pub fn refuse_finite_box(world: [Interval; 3]) -> Result<(), Refusal>
 pub fn refuse_triangle(c: [[Interval; 3]; 3]) -> Result<(), Refusal>
     ensures { number_of result ≡ triangle_refusal c }
 {
-    let ordered = c.into_iter().all(all_ordered);
-    let near = c.into_iter().all(all_near);
+    let ordered = c.iter().all(|w| all_ordered(*w));
+    let near = c.iter().all(|w| all_near(*w));
     refuse(!ordered, Refusal::Unordered)?;
     refuse(!near, Refusal::Far)
 }

@@ -1,10 +1,12 @@
 // What an exported call reads from the slices lent to it, once their lengths are known.
 ghost use Rattle.std.specs.Prelude.{◌≡◌, ◌+◌, ◌≤◌, [], ◌∷◌, get_or, length};
 ghost use Rattle.capi.specs.Lent as lent;
+ghost use Rattle.capi.specs.Exports as exports;
 
-use grade::Grade;
+use grade::{Grade, Piece};
 use gyroid::{Description, Frame};
 use interval::Interval;
+use walk::TieRule;
 
 // The three entries from place `at` on.
 pub fn three_at<T: Copy>(s: &[T], at: usize) -> [T; 3]
@@ -81,4 +83,25 @@ pub fn corners_at(s: &[f64]) -> [[Interval; 3]; 3]
     ensures { result ≡ lent.triangle s.now }
 {
     [world_at(s, 0), world_at(s, 6), world_at(s, 12)]
+}
+
+// The piece of a number, by the original's order; any number above is the last. Whether it is one, `piece_lent` tests.
+pub fn piece_of(number: u32) -> Piece
+    ensures { result ≡ exports.piece number }
+{
+    match number {
+        0 => Piece::Start,
+        1 => Piece::Ramp,
+        _ => Piece::End,
+    }
+}
+
+// The tie rule of a number, 0 the default; any other is the lowest-axis rule. Whether it is one, `walk_lent` tests.
+pub fn rule_of(number: u32) -> TieRule
+    ensures { result ≡ exports.tie_rule number }
+{
+    match number {
+        0 => TieRule::GradeAxis,
+        _ => TieRule::LowestAxis,
+    }
 }

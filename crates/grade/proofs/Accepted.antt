@@ -28,6 +28,7 @@ pub record Accepted (g : Grade) (lo hi : List ℤ) : Type 0 where
   pub low : Within3 1048576 lo
   pub high : Within3 1048576 hi
   pub order : T (not (above lo hi))
+  pub no_distance : T (not (is_distance g))
   pub apart : T (not (coincident g))
 
 pub accepted : (g : Grade) (lo hi : List ℤ) → range_refusal g lo hi ≡ 0 → Accepted g lo hi
@@ -35,10 +36,10 @@ unfolding range_refusal
 accepted g lo hi e =
     let (a, e1) = none_first (not (in_limits g && ticks lo && ticks hi)) 0 (refused (above lo hi) 6 or_else refused (is_distance g) 7 or_else refused (coincident g) 8) e in
     let (b, e2) = none_first (above lo hi) 5 (refused (is_distance g) 7 or_else refused (coincident g) 8) e1 in
-    let (_, e3) = none_first (is_distance g) 6 (refused (coincident g) 8) e2 in
+    let (c, e3) = none_first (is_distance g) 6 (refused (coincident g) 8) e2 in
     let (d, h) = both (in_limits g && ticks lo) (ticks hi) (kept (in_limits g && ticks lo && ticks hi) a) in
     let (i, l) = both (in_limits g) (ticks lo) d in
-    record { limits = record { passed = i }; low = ticks_within lo l; high = ticks_within hi h; order = b; apart = none_last (coincident g) 7 e3 }
+    record { limits = record { passed = i }; low = ticks_within lo l; high = ticks_within hi h; order = b; no_distance = c; apart = none_last (coincident g) 7 e3 }
 
 -- ---- anchors apart: L is above 0
 pub same_yes : (a b : ℤ) → a ≡ b → T (eq_z a b)

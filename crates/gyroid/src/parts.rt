@@ -157,6 +157,14 @@ impl Gyroid {
         }
     }
 
+    // The same, with the second-order term worked out.
+    pub fn joined(&self, x: &Part, y: &Part, z: &Part) -> Interval
+        ensures { result ≡ joined_of self.now x.now y.now z.now }
+    {
+        let second = self.second_order(x.radius, y.radius, z.radius);
+        self.residual_of_parts(x, y, z, second)
+    }
+
     // The state of the box whose parts these are; `second` is its second-order term.
     #[inline(always)]
     pub fn state_of_parts(&self, x: &Part, y: &Part, z: &Part, second: Interval) -> State

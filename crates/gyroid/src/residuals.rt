@@ -30,8 +30,7 @@ impl Gyroid {
         let x = self.part(0, world[0])?;
         let y = self.part(1, world[1])?;
         let z = self.part(2, world[2])?;
-        let second = self.second_order(x.radius, y.radius, z.radius);
-        Some(self.residual_of_parts(&x, &y, &z, second))
+        Some(self.joined(&x, &y, &z))
     }
 
     // The affine extension of a constant level is the level, without a gradient.

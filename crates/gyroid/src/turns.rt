@@ -39,17 +39,19 @@ pub fn symmetric(x: f64) -> Interval
     Interval::new(-x, x)
 }
 
-// Horner's rule over a series of nine terms.
+// Horner's rule in both series of nine terms side by side, so that neither waits for the other. By index: over `iter().rev()` it was proved, but
+// then no proof names the operations, and the kept wrong program is refused by no fact.
 #[tactic(auto, unfolding(crate::specs::Turn::horner))]
-fn horner(coefficients: &[Interval; 9], x: Interval) -> Interval
-    ensures { result ≡ horner coefficients.now x 8 }
+fn series(sine: &[Interval; 9], cosine: &[Interval; 9], x: Interval) -> Circle
+    ensures { result ≡ record { sine = horner sine.now x 8; cosine = horner cosine.now x 8 } }
 {
-    let mut sum = coefficients[8];
-    // By index: over `iter().rev()` it was proved, but then no proof names the operations, and the kept wrong program is refused by no fact.
+    let mut s = sine[8];
+    let mut c = cosine[8];
     for i in 0..8 {
-        sum = sum * x + coefficients[7 - i];
+        s = s * x + sine[7 - i];
+        c = c * x + cosine[7 - i];
     }
-    sum
+    Circle { sine: s, cosine: c }
 }
 
 impl Circle {
@@ -81,10 +83,10 @@ impl Gyroid {
     fn circle(&self, u: Interval) -> Circle
         ensures { result ≡ circle_at self.now u }
     {
-        let x = u.square();
+        let s = series(&self.sine, &self.cosine, u.square());
         Circle {
-            sine: horner(&self.sine, x) * u + symmetric(self.tail_sine),
-            cosine: horner(&self.cosine, x) + symmetric(self.tail_cosine),
+            sine: s.sine * u + symmetric(self.tail_sine),
+            cosine: s.cosine + symmetric(self.tail_cosine),
         }
     }
 

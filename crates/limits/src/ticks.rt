@@ -17,7 +17,7 @@ pub fn side(low: i64, high: i64) -> bool
 pub fn ticks(v: [i64; 3]) -> bool
     ensures { result ≡ ticks v }
 {
-    v.into_iter().all(tick)
+    v.iter().all(|x| tick(*x))
 }
 
 // Whether a low is above its high. The three axes are written out: as `any` over the axes the equation with `above` was not found.

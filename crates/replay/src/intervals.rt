@@ -1,11 +1,11 @@
 // The list of the interval layer's answers. A case is seven words: the operation, four words that it takes, and the two ends of its answer.
 // A number that is no double stands as 2^53 more than itself.
-use crate::words::{first_words, float_of, number, same};
+use crate::words::{each, float_of, number, same};
 use interval::Interval;
 use interval::floor::{floor, modulo_four, quarter_number};
 use interval::nearest::{nearest, whole};
 use interval::step::{next_down, next_up};
-use lists::Stop;
+use lists::{Stop, read_full};
 use std::io::Read;
 
 const OFFSET: u64 = 0x20_0000_0000_0000;
@@ -76,12 +76,43 @@ fn answer(op: u64, x: u64, y: u64, z: u64, w: u64) -> Interval {
     }
 }
 
-// Whether the answer to the next case is the one that stands there. Fewer than seven words at the list's end are no case.
-pub(crate) fn next<R: Read>(list: &mut R) -> Result<Option<bool>, Stop> {
-    let [op, x, y, z, w, lo, hi]: [u64; 7] = match first_words(list) {
-        Err(Stop::Broken) => return Err(Stop::End),
-        words => words?,
-    };
+// The words that are read at once, of 1,024 cases.
+pub(crate) const BLOCK: usize = 7168;
+
+// Where among them the next case begins, and where the last one ends.
+#[derive(Clone, Copy, Debug, PartialEq, Eq)]
+pub(crate) struct Left {
+    at: usize,
+    end: usize,
+}
+
+impl Left {
+    pub(crate) fn none() -> Left {
+        Left { at: 0, end: 0 }
+    }
+}
+
+// Whether the answer to the next case is the one that stands there; None where the next block was read, all of which comes before any of its
+// cases is tried. Fewer than seven words at the list's end are no case.
+pub(crate) fn next<R: Read>(
+    list: &mut R,
+    block: &mut [[u8; 8]; BLOCK],
+    left: &mut Left,
+) -> Result<Option<bool>, Stop> {
+    let Left { at, end } = *left;
+    if end.min(BLOCK).saturating_sub(at) < 7 {
+        let n = read_full(list, block.as_flattened_mut())?;
+        if n == 0 {
+            return Err(Stop::End);
+        }
+        *left = Left {
+            at: 0,
+            end: n / 56 * 7,
+        };
+        return Ok(None);
+    }
+    *left = Left { at: at + 7, end };
+    let [op, x, y, z, w, lo, hi]: [u64; 7] = each(&block[at..at + 7], 0, u64::from_le_bytes);
     let r = answer(op, x, y, z, w);
     Ok(Some(same(r.lo, float_of(lo)) && same(r.hi, float_of(hi))))
 }

@@ -2,7 +2,6 @@
 ghost use Rattle.std.specs.Prelude.{◌≤◌, IfOk};
 
 use lists::{Stop, fill_front};
-use std::array;
 use std::io::Read;
 
 // The bytes of the longest table and of the longest report.
@@ -21,15 +20,21 @@ pub(crate) fn length_of(n: u64) -> Result<usize, Stop>
 
 // Bytes as the harness lends them: none is zero and none is as its neighbour, so that what is left, zeroed or moved can be told. They go round
 // from 1 to 251 by steps of 37.
-pub(crate) fn unwritten() -> [u8; LONGEST] {
-    array::from_fn(|i| (37 * i % 251 + 1) as u8)
+pub(crate) fn set_unwritten(s: &mut [u8]) {
+    let mut byte: u8 = 1;
+    for b in s {
+        *b = byte;
+        byte = if byte > 214 { byte - 214 } else { byte + 37 };
+    }
 }
 
-// The next n bytes of the list, at the front, and the zeros behind them, up to a whole word.
-pub(crate) fn read_padded<R: Read>(list: &mut R, n: usize) -> Result<[u8; LONGEST], Stop>
+// Reads the next n bytes of the list to the front, and the zeros behind them, up to a whole word.
+pub(crate) fn read_padded<R: Read>(
+    list: &mut R,
+    bytes: &mut [u8; LONGEST],
+    n: usize,
+) -> Result<(), Stop>
     requires { n ≤ 4096 }
 {
-    let mut bytes = [0u8; LONGEST];
-    fill_front(list, &mut bytes, n.next_multiple_of(8))?;
-    Ok(bytes)
+    fill_front(list, bytes, n.next_multiple_of(8))
 }

@@ -9,6 +9,7 @@ mod lent; // the bytes that a case lends
 mod walks; // the list of walks
 mod reports; // the list of layer reports
 
+use intervals::{BLOCK, Left};
 use lists::{Stop, tallied};
 use std::io;
 use std::rt::Files;
@@ -29,8 +30,14 @@ fn replay<R: Files + Print + Eprint, F: FnMut(&mut R::File) -> Result<Option<boo
 }
 
 fn main(rt: HostRuntime) -> io::Result<()> {
+    let mut block = [[0; 8]; BLOCK];
+    let mut left = Left::none();
+    replay(
+        &rt,
+        "interval",
+        |list| intervals::next(list, &mut block, &mut left),
+    )?;
     let mut description = [0; 18];
-    replay(&rt, "interval", intervals::next)?;
     replay(
         &rt,
         "calls",

@@ -1,7 +1,7 @@
 // The list of answers to the public calls, the original's or document 02's. A case begins with a word of bytes: the call, how many words
 // it takes, how many words answer it, the status, the piece. The words follow: doubles by their bits, whole numbers as 2^62 more than
 // themselves. Call 0 takes the 18 entries of the description that the cases after it are about.
-use crate::words::{float_of, offset, same};
+use crate::words::{each, float_of, offset, same};
 use lists::{Stop, begin, fill};
 use std::io::Read;
 
@@ -56,23 +56,23 @@ impl Wanted<'_> {
 // Whether the call of this number answers as the list says. The list's own byte names the call, and each number stands here alone: an enum of
 // the calls would say the same numbers over again.
 fn answers(call: u8, piece: u32, d: &[i64; 18], words: &[u64; MOST], wanted: Wanted) -> bool {
-    let whole = words.map(offset);
-    let real = words.map(float_of);
+    let whole: [i64; 6] = each(words, 0, offset);
+    let real: [f64; MOST_GIVEN] = each(words, 0.0, float_of);
     match call {
         1 => wanted.is_whole(|out| capi::gyroid_graded(d, out)),
         2 => wanted.is_whole(|out| capi::gyroid_saturated(d, out)),
         3 => wanted.is_whole(|out| capi::gyroid_planes(d, out)),
         4 => wanted.is_real(|out| capi::gyroid_curvature(d, out)),
         5 => wanted.is_real(|out| capi::gyroid_lipschitz(d, out)),
-        6 => wanted.is_whole(|out| capi::gyroid_grade_range(d, &whole[..6], out)),
-        7 => wanted.is_whole(|out| capi::gyroid_level_piece(d, &whole[..6], out)),
+        6 => wanted.is_whole(|out| capi::gyroid_grade_range(d, &whole, out)),
+        7 => wanted.is_whole(|out| capi::gyroid_level_piece(d, &whole, out)),
         8 => wanted.is_real(|out| capi::gyroid_jet(d, &real[..6], out)),
         9 => wanted.is_real(|out| capi::gyroid_affine_jet(d, &real[..6], out)),
         10 => wanted.is_real(|out| capi::gyroid_derivatives(d, &real[..6], piece, out)),
         11 => wanted.is_real(|out| capi::gyroid_residual(d, &real[..6], out)),
         12 => wanted.is_real(|out| capi::gyroid_affine_residual(d, &real[..6], out)),
         13 => wanted.is_whole(|out| capi::gyroid_box_state(d, &real[..6], out)),
-        14 => wanted.is_real(|out| capi::gyroid_facet_residual(d, &real[..18], out)),
+        14 => wanted.is_real(|out| capi::gyroid_facet_residual(d, &real, out)),
         15 => wanted.is_real(|out| capi::gyroid_fast(d, &real[..3], out)),
         _ => wanted.is_real(|out| capi::gyroid_fast_distance(d, &real[..3], out)),
     }
@@ -93,9 +93,9 @@ pub(crate) fn next<R: Read>(
     }
     let mut bytes = [[0u8; 8]; MOST];
     fill(list, bytes[..given + count].as_flattened_mut())?;
-    let words = bytes.map(u64::from_le_bytes);
+    let words: [u64; MOST] = each(&bytes, 0, u64::from_le_bytes);
     if call == 0 {
-        description.copy_from_slice(&words.map(offset)[..18]);
+        *description = each(&words, 0, offset);
         return Ok(None);
     }
     let wanted = Wanted {

@@ -2,7 +2,6 @@
 ghost use Rattle.std.specs.Prelude.{◌^◌, ◌≤◌, unsigned_abs};
 
 use lists::{Stop, begin};
-use std::array;
 use std::io::Read;
 
 // The double with these bits; every NaN pattern is one NaN.
@@ -42,9 +41,25 @@ pub(crate) fn same(x: f64, y: f64) -> bool {
     if x.is_nan() { y.is_nan() } else { x == y }
 }
 
+// What the first N of the items are. By a loop: the library's `map` and `from_fn` of an array hold each element in an Option, and going over a
+// list then costs half as much again.
+pub(crate) fn each<A: Copy, T: Copy, const N: usize, F: Fn(A) -> T>(
+    items: &[A],
+    start: T,
+    of: F,
+) -> [T; N]
+    requires { F.IsAlwaysCallable of }
+{
+    let mut values = [start; N];
+    for (value, item) in values.iter_mut().zip(items) {
+        *value = of(*item);
+    }
+    values
+}
+
 // The N words that a case begins with.
 pub(crate) fn first_words<R: Read, const N: usize>(list: &mut R) -> Result<[u64; N], Stop> {
     let mut bytes = [[0u8; 8]; N];
     begin(list, bytes.as_flattened_mut())?;
-    Ok(array::from_fn(|i| u64::from_le_bytes(bytes[i])))
+    Ok(each(&bytes, 0, u64::from_le_bytes))
 }

@@ -127,28 +127,28 @@ not3 a b c d e h = ap (λ (x : Bool). passes a b x d e) h ∙ ap (λ (x : Bool).
 not4 : (a b c d e : Bool) → d ≡ false → passes a b c d e ≡ false
 not4 a b c d e h = ap (λ (x : Bool). passes a b c x e) h ∙ ap (λ (x : Bool). x && e) (and-false ((a && b) && c))
 
--- a turn of the loop, after `done` of the n cells: what is left says whether the table is sound, and the sum has not passed the limit
-pub record Turn (t : List ℕ) (n done slot sum : ℕ) : Type 0 where
+-- a turn of the loop: what is left says whether the table is sound, and the sum has not passed the limit
+pub record Turn (t : List ℕ) (n left slot sum : ℕ) : Type 0 where
   pub room : 32 * (n + 1) ≤ length t
-  pub same : follows n (n - done) t slot sum ≡ sound_of t
+  pub same : follows n left t slot sum ≡ sound_of t
   pub small : sum ≤ most
 
-module _ {t : List ℕ} {n done slot sum : ℕ} (turn : Turn t n done slot sum) where
-  pub at_end : n ≤ done → eqb slot 0 ≡ sound_of t
+module _ {t : List ℕ} {n left slot sum : ℕ} (turn : Turn t n left slot sum) where
+  pub at_end : left ≤ 0 → eqb slot 0 ≡ sound_of t
   unfolding follows
-  at_end h = let e : n - done ≡ 0 = omega arith in ap (λ (k : ℕ). follows n k t slot sum) (sym e) ∙ turn.same
+  at_end h = let e : left ≡ 0 = omega arith in ap (λ (k : ℕ). follows n k t slot sum) (sym e) ∙ turn.same
 
   abbrev v : ℕ
   v = volume (record_in t slot).box
 
-  one_more : done < n
-      → follows n (n - done) t slot sum
-      ≡ passes (leb 1 slot) (leb slot n) (sound_cell (record_in t slot)) (leb (sum + v) most) (follows n (n - (done + 1)) t (next_in t slot) (sum + v))
+  one_more : 0 < left
+      → follows n left t slot sum
+      ≡ passes (leb 1 slot) (leb slot n) (sound_cell (record_in t slot)) (leb (sum + v) most) (follows n (left - 1) t (next_in t slot) (sum + v))
   unfolding follows
-  one_more h = let e : n - done ≡ suc (n - (done + 1)) = omega arith in ap (λ (k : ℕ). follows n k t slot sum) e
+  one_more h = let e : left ≡ suc (left - 1) = omega arith in ap (λ (k : ℕ). follows n k t slot sum) e
 
-  module _ (some : done < n) where
-    stops : follows n (n - done) t slot sum ≡ false → false ≡ sound_of t
+  module _ (some : 0 < left) where
+    stops : follows n left t slot sum ≡ false → false ≡ sound_of t
     stops e = sym e ∙ turn.same
 
     pub slot_out : (1 ≤ slot → slot ≤ n → ⊥) → false ≡ sound_of t
@@ -167,18 +167,17 @@ module _ {t : List ℕ} {n done slot sum : ℕ} (turn : Turn t n done slot sum) 
         stops (one_more some ∙ not4 (leb 1 slot) (leb slot n) (sound_cell (record_in t slot)) _ _ (lt-leb (sum + v) most (omega (arith, turn.small))))
 
     pub goes_on : 1 ≤ slot → slot ≤ n → sound_cell (record_in t slot) ≡ true → {x next : ℕ} → x ≡ v → x ≤ most - sum → next ≡ next_in t slot
-        → Turn t n (done + 1) next (sum + x)
+        → Turn t n (left - 1) next (sum + x)
     goes_on a b f {x} {next} e h g =
         let fits : sum + x ≤ most = omega (arith, turn.small) in
         let s = le-leb (sum + v) most (omega arith) in
-        let left : ℕ = n - (done + 1) in
-        let all : follows n (n - done) t slot sum ≡ follows n left t (next_in t slot) (sum + v) =
-        one_more some ∙ (λ i. passes (le-leb 1 slot a i) (le-leb slot n b i) (f i) (s i) (follows n left t (next_in t slot) (sum + v))) in
-        record { room = turn.room; same = (λ i. follows n left t (g i) (sum + e i)) ∙ sym all ∙ turn.same; small = fits }
+        let all : follows n left t slot sum ≡ follows n (left - 1) t (next_in t slot) (sum + v) =
+        one_more some ∙ (λ i. passes (le-leb 1 slot a i) (le-leb slot n b i) (f i) (s i) (follows n (left - 1) t (next_in t slot) (sum + v))) in
+        record { room = turn.room; same = (λ i. follows n (left - 1) t (g i) (sum + e i)) ∙ sym all ∙ turn.same; small = fits }
 
-pub first_turn : (t : List ℕ) {n slot : ℕ} → n ≡ cells_in t → slot ≡ first_in t → 1 ≤ n → n < length t / 32 → Turn t n 0 slot 0
+pub first_turn : (t : List ℕ) {n slot : ℕ} → n ≡ cells_in t → slot ≡ first_in t → 1 ≤ n → n < length t / 32 → Turn t n n slot 0
 first_turn t {n} e f h k = record {
   room = omega arith;
-  same = let none : n - 0 ≡ n = omega arith in (λ i. follows (e i) ((none ∙ e) i) t (f i) 0) ∙ from_first t (omega arith) (omega arith);
+  same = (λ i. follows (e i) (e i) t (f i) 0) ∙ from_first t (omega arith) (omega arith);
   small = omega arith;
 }

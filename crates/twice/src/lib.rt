@@ -14,7 +14,6 @@ use capi::reading::{describe, three_at};
 use capi::writing::done;
 
 // As `gyroid_walk`.
-#[tactic(auto, unfolding(capi::specs::Exports::walk_status, capi::specs::Exports::walk_left))]
 pub fn gyroid_walk_twice(
     description: &[i64],
     bounds: &[i64],
