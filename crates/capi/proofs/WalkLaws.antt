@@ -28,7 +28,7 @@ module _ (ds ns : List ℤ) (D : ℤ) (rule : ℕ) (t : List ℕ) {n : ℕ} (e :
   abbrev Walked : ℕ → List ℕ → Type 0
   Walked r u = (r ≡ walk_status ds ns D rule (length t)) × (u ≡ walk_left ds ns D rule t)
 
-  -- the law of the two cases, which stand because docs/landings name them: a length or the rule is wrong
+  -- the laws of the two cases, which twice's proof cites and docs/landings name: a length or the rule is wrong
   pub walk_stopped : (n ≡ 0 → ⊥) → Walked n t
   unfolding walk_status walk_left
   walk_stopped h = let f = test ∙ ne_eqb n 0 h in (rw f e, rw f)

@@ -85,7 +85,7 @@ pub fn corners_at(s: &[f64]) -> [[Interval; 3]; 3]
     [world_at(s, 0), world_at(s, 6), world_at(s, 12)]
 }
 
-// The piece of a number, by the original's order; any number above is the last. Whether it is one, `piece_lent` tests.
+// The piece of a number, in the original's order: 0 Start, 1 Ramp, 2 and every number above it End. That it is at most 2, `piece_lent` tests.
 pub fn piece_of(number: u32) -> Piece
     ensures { result ≡ exports.piece number }
 {
@@ -96,7 +96,7 @@ pub fn piece_of(number: u32) -> Piece
     }
 }
 
-// The tie rule of a number, 0 the default; any other is the lowest-axis rule. Whether it is one, `walk_lent` tests.
+// The tie rule of a number: 0 is the default, and every other number the lowest-axis rule. That it is at most 1, `walk_lent` tests.
 pub fn rule_of(number: u32) -> TieRule
     ensures { result ≡ exports.tie_rule number }
 {

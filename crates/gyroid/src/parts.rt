@@ -157,12 +157,13 @@ impl Gyroid {
         }
     }
 
-    // The same, with the second-order term worked out.
-    pub fn joined(&self, x: &Part, y: &Part, z: &Part) -> Interval
-        ensures { result ≡ joined_of self.now x.now y.now z.now }
+    // The residual over the box whose parts these are, of any three; none where one is none.
+    pub fn joined(&self, x: Option<Part>, y: Option<Part>, z: Option<Part>) -> Option<Interval>
+        ensures { result ≡ joined self.now x y z }
     {
+        let (x, y, z) = (x?, y?, z?);
         let second = self.second_order(x.radius, y.radius, z.radius);
-        self.residual_of_parts(x, y, z, second)
+        Some(self.residual_of_parts(&x, &y, &z, second))
     }
 
     // The state of the box whose parts these are; `second` is its second-order term.

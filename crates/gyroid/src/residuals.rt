@@ -22,7 +22,7 @@ impl State {
 }
 
 impl Gyroid {
-    // Three parts by `?`, as in `expansion`: a function for the three would want a definition of its own, and is no plainer.
+    // A part that is not found ends it: the others are not worked out.
     #[tactic(auto, using(crate::proofs::PartLaws::residual_joined))]
     pub fn residual(&self, world: [Interval; 3]) -> Option<Interval>
         ensures { result ≡ residual self.now world }
@@ -30,7 +30,7 @@ impl Gyroid {
         let x = self.part(0, world[0])?;
         let y = self.part(1, world[1])?;
         let z = self.part(2, world[2])?;
-        Some(self.joined(&x, &y, &z))
+        self.joined(Some(x), Some(y), Some(z))
     }
 
     // The affine extension of a constant level is the level, without a gradient.

@@ -92,8 +92,8 @@ impl Left {
     }
 }
 
-// Whether the answer to the next case is the one that stands there; None where the next block was read, all of which comes before any of its
-// cases is tried. Fewer than seven words at the list's end are no case.
+// Whether the answer to the next case is the one that stands there; None where it has read the next block, since a block is read whole before any
+// of its cases is tried. Fewer than seven words at the list's end are no case.
 pub(crate) fn next<R: Read>(
     list: &mut R,
     block: &mut [[u8; 8]; BLOCK],

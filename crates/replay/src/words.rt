@@ -41,8 +41,8 @@ pub(crate) fn same(x: f64, y: f64) -> bool {
     if x.is_nan() { y.is_nan() } else { x == y }
 }
 
-// What the first N of the items are. By a loop: the library's `map` and `from_fn` of an array hold each element in an Option, and going over a
-// list then costs half as much again.
+// What the first N of the items are. By a loop: the library's `map` and `from_fn` of an array hold each element in an Option, and the list
+// of calls then takes a third more time.
 pub(crate) fn each<A: Copy, T: Copy, const N: usize, F: Fn(A) -> T>(
     items: &[A],
     start: T,
